@@ -1,0 +1,28 @@
+-- `numbers::integers::mul` meets its contract. Assumes nothing.
+use lib.IntN.{ℤ, _*ℤ_}
+use borrow.Author.Needs.{needs}
+use Rattle.numbers.specs.Integers.{operate}
+use Rattle.numbers.proofs.FitLaws.{cast-fits, operands-fit, result-is, prod-fits}
+use Rattle.numbers.proofs.integers.mul.Statement.{statement}
+use Rattle.numbers.proofs.integers.mul.Tie as tie
+
+cast-reduce : tie.Need-cast-reduce
+cast-reduce c = cast-fits (c .args .x) (c .fits .x)
+
+cast-reduce-2 : tie.Need-cast-reduce-2
+cast-reduce-2 c = cast-fits (c .args .y) (c .fits .y)
+
+mul-reduce : tie.Need-mul-reduce
+mul-reduce c = operands-fit _ _ (c .fits .x) (c .fits .y) (λ (a b : ℤ). a *ℤ b) (prod-fits _ _ (c .fits .x) (c .fits .y))
+
+reduce-requires : tie.Need-reduce-requires
+reduce-requires c κs = search needs
+
+returns : tie.Need-returns
+unfolding operate
+returns c =
+    let k = c .before .fits in
+    result-is _ _ (k .x) (k .y) (λ (a b : ℤ). a *ℤ b) (prod-fits _ _ (k .x) (k .y)) _ (record { sfits = c .reduce .ok }) (c .reduce .ensures)
+
+pub mul-spec : {M : Type 1} → statement M
+mul-spec = tie.close (tie.spec cast-reduce cast-reduce-2 mul-reduce reduce-requires returns)

@@ -1,0 +1,3 @@
+pub mod Integers
+pub mod Words
+pub mod Stretches

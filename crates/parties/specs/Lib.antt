@@ -1,0 +1,4 @@
+pub mod Limits
+pub mod Sets
+pub mod SetLaws
+pub mod SetBytes

@@ -1,0 +1,9 @@
+pub mod Names
+pub mod Rules
+pub mod Moves
+pub mod Books
+pub mod Single
+pub mod Joint
+pub mod Lent
+pub mod Calls
+pub mod Marked
