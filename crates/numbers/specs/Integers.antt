@@ -1,4 +1,4 @@
--- Integers of 32 bits (document 01, "Rules of one step": OP).
+-- Integers of 32 bits (document 01, "Rules of one step": OP). In source document 001 they have no bounds.
 use Prim.Native.Nat.{ℕ, _-_, _%_, _^_}
 use mathlib.Core.Bool.{Bool, true, false, cond}
 use lib.Dec.{ltb, eqb}

@@ -1,2 +1,6 @@
 pub mod Nodes
+pub mod Kinds
 pub mod Check
+pub mod Answer
+pub mod Records
+pub mod ScanLaws

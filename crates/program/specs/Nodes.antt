@@ -1,9 +1,9 @@
 -- Document 01, "Program bytes": the table of kinds, and the node that a record's bytes are.
-use Prim.Native.Nat.{ℕ}
+use Prim.Native.Nat.{ℕ, _+_}
 use mathlib.Core.Bool.{Bool, _&&_}
 use mathlib.Core.List.{List, [], _∷_}
 use lib.Dec.{leb}
-use lib.ListN.{getD}
+use lib.ListN.{getD, drop}
 use Rattle.numbers.specs.Words.{numberAt, integerAt}
 use Rattle.numbers.specs.declared.integers.Operation.{Operation}
 use Rattle.numbers.specs.declared.integers.Operation.the-variants.{Add, Sub, Mul, Eq, Lt}
@@ -45,3 +45,11 @@ nodeOf kind b =
     ∷ PAR (setAt b 0) (two 2)
     ∷ CALL (two 0) (name 2)
     ∷ []) kind READ
+
+-- the name whose byte stands at a place
+abbrev pub nameIn : List ℕ → ℕ → Name
+nameIn p i = record { index = getD p i 0 }
+
+-- the node whose record starts at a place
+unfoldable pub nodeIn : List ℕ → ℕ → Node
+nodeIn p at = nodeOf (getD p at 0) (drop (at + 1) p)

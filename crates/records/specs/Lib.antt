@@ -1,2 +1,9 @@
-pub mod Refusals
 pub mod Events
+pub mod Ranged
+pub mod EventLaws
+pub mod Append
+pub mod AppendLaws
+pub mod Walk
+pub mod WalkLaws
+pub mod Order
+pub mod BeginsLaws

@@ -5,7 +5,7 @@ use mathlib.Core.List.{List, [], _∷_}
 use mathlib.Core.Option.{Option, none, some}
 use lib.Dec.{ltb}
 use Rattle.program.specs.Check.{Program, Checked, good, bad, checked}
-use Rattle.records.specs.Refusals.{badProgram, badCounts, badTurn, tooLittleLent}
+use Rattle.refusals.specs.Numbers.{badProgram, badCounts, badTurn, tooLittleLent}
 use Rattle.rules.specs.Books.{Books}
 use Rattle.rules.specs.Lent.{Lent, Left, unchanged, roomOf, inputsOf, countsFit, enoughLent, leftBy}
 use Rattle.rules.specs.Single.{Single, going, ended, stopped, Setting, after}

@@ -12,7 +12,7 @@ use Rattle.values.specs.Values.{slice}
 use Rattle.values.specs.declared.value.Value.{Value}
 use Rattle.values.specs.declared.value.Value.the-variants.{Clear}
 use Rattle.program.specs.Check.{nodeAt}
-use Rattle.records.specs.Refusals.{noInput, noRoom, tooDeep, disagreement}
+use Rattle.refusals.specs.Numbers.{noInput, noRoom, tooDeep, disagreement}
 use Rattle.records.specs.Events.{finished}
 use Rattle.records.specs.declared.events.Event.{Event}
 use Rattle.records.specs.declared.events.Event.the-variants.{Read, Wrote, Stopped}

@@ -1,9 +1,11 @@
 pub mod Names
 pub mod Rules
+pub mod Handed
 pub mod Moves
 pub mod Books
 pub mod Single
 pub mod Joint
 pub mod Lent
 pub mod Calls
+pub mod RunLaws
 pub mod Marked

@@ -18,7 +18,7 @@ use Rattle.values.specs.declared.value.Held.the-variants.{Number, Other}
 use Rattle.program.specs.Nodes.{operationOf}
 use Rattle.program.specs.declared.nodes.Node.{Node}
 use Rattle.program.specs.declared.nodes.Node.the-variants.{VAR, INT, OP, MUX, READ, WRITE, EMBED, SHARE, REVEAL, LET, CASE, PAR, CALL}
-use Rattle.records.specs.Refusals.{nameUnbound, wrongValue, wrongMode}
+use Rattle.refusals.specs.Numbers.{nameUnbound, wrongValue, wrongMode}
 use Rattle.rules.specs.Names.{Names, Looked, found, unbound, lookAll, namesOf, first, second, third}
 use Rattle.rules.specs.declared.effects.View.{View}
 use Rattle.rules.specs.declared.effects.View.the-variants.{Whole, Site}
@@ -110,8 +110,8 @@ goesIn (Site P) m p = member (P .index) p
 
 -- ---- all thirteen
 
--- What a node does with the values of its names. Of 001, functions are named nodes (CALL), `case` looks at an integer (CASE), `embed` uses the
--- present mode (EMBED); a write hands back 0 (Writes, in Single and Joint).
+-- What a node does with the values of its names. Unlike 001: `embed` always uses the present mode (EMBED); `case` looks at an integer, and binds
+-- no name (CASE); functions are named nodes, so that a call looks at no place of a function and keeps no bindings (CALL).
 unfoldable pub judge : View → Node → PartySet → List Value → Effect
 judge w (VAR x) m vs = handsBack (first vs)
 judge w (INT i) m vs = handsBack (Clear i m)

@@ -10,7 +10,7 @@ use Rattle.values.specs.Values.{slice}
 use Rattle.values.specs.declared.value.Value.{Value}
 use Rattle.values.specs.declared.value.Value.the-variants.{Clear}
 use Rattle.program.specs.Check.{Program, nodeAt}
-use Rattle.records.specs.Refusals.{wrongValue, noInput, noRoom, tooDeep}
+use Rattle.refusals.specs.Numbers.{wrongValue, noInput, noRoom, tooDeep}
 use Rattle.records.specs.Events.{finished}
 use Rattle.records.specs.declared.events.Event.{Event}
 use Rattle.records.specs.declared.events.Event.the-variants.{Read, Wrote}
@@ -62,7 +62,8 @@ unfoldable pub readAll : Setting → ℕ → Control → Books → List ℤ → 
 readAll S t c b [] = stopped t noInput (c .node) b
 readAll S t c b (i ∷ is) = settleAll S t c b (some (Read i)) (Hand (Clear i (c .mode)))
 
--- What an effect does. All checks of SHARE and REVEAL are made at once here, so nobody meets with empty hands: the case is there for the sites.
+-- What an effect does; a write hands back 0, where 001 hands back what was written. All checks of SHARE and REVEAL are made at once here, so
+-- nobody meets with empty hands (whole-brings): that case is there for the sites, and would be a value of the wrong sort.
 unfoldable pub perform : Setting → ℕ → Control → Books → Effect → Single
 perform S t c b (Refuse refusal) = stopped t refusal (c .node) b
 perform S t c b (Goes mv) = settleAll S t c b none mv

@@ -1,0 +1,4 @@
+pub mod StoreLaws
+pub mod StepLaws
+pub mod OrderLaws
+pub mod WrittenLaws
