@@ -3,22 +3,22 @@ use mathlib.Core.Path.{_≡_, refl, sym, ap, _∙_}
 use mathlib.Core.Bool.{Bool, true, false, _&&_, cond}
 use mathlib.Core.List.{List, [], _∷_, _++_, map}
 use mathlib.Core.Option.{Option, none, some}
-use Prim.Native.Nat.{ℕ, zero, suc, _+_, _*_, _≤_, _<_, max}
+use Prim.Native.Nat.{ℕ, suc, _+_, _*_, _≤_, _<_, max}
 use native.Mathlib.Numerals.{add-one}
 use native.Mathlib.Decide.{decLt}
 use native.Mathlib.Omega.{arith}
-use lib.Dec.{eqb, ltb, leb, leb·zero}
-use lib.ListN.{length, getD, drop, length-append, length-map}
+use lib.Dec.{eqb, leb, leb·zero}
+use lib.ListN.{length, length-append, length-map}
 use borrow.Author.Tests.{le-leb, lt-leb, leb-true}
 use Rattle.refusals.specs.Numbers.{badProgram}
-use Rattle.program.specs.Check.{Placed, Scanned, nodes, put, scan, calls, badCall, Checked, good, unlessBadCall, verdict, checked}
+use Rattle.program.specs.Check.{Placed, Scanned, nodes, put, scan, calls, badCall, Checked, unlessBadCall, verdict, checked}
 use Rattle.program.specs.Answer.{CheckAnswer, accepted, refused, answerOf, checkAnswer}
-use Rattle.program.specs.Records.{reachOf, foundAt, partiesIn, scanned, AllGood, LostAt}
+use Rattle.program.specs.Records.{reachOf, foundAt, partiesIn, scanned, AllGood}
 use Rattle.program.specs.declared.nodes.Node.{Node}
 use Rattle.program.specs.declared.nodes.Node.the-variants.{VAR, INT, OP, MUX, READ, WRITE, EMBED, SHARE, REVEAL, LET, CASE, PAR, CALL}
-use Rattle.program.specs.declared.check.Found.{Found}
 use Rattle.program.specs.declared.check.Found.the-variants as Found′
-use Rattle.program.proofs.ScanSteps.{placed, from, Stepped, scan-end, scan-bad, scan-good}
+use Rattle.program.specs.ScanLaws.{placed, from, scan-end}
+use Rattle.program.proofs.ScanSteps.{scan-bad, scan-good}
 
 -- ---- the first record
 

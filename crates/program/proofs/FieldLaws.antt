@@ -1,8 +1,8 @@
 -- The fields of a body: what the constructors' answers tell, and that a kind's rule is its node's `fits`. Assumes nothing.
-use mathlib.Core.Path.{_≡_, refl, sym, ap, _∙_}
+use mathlib.Core.Path.{_≡_, refl, _∙_}
 use mathlib.Core.Bool.{Bool, true, false, _&&_, cond}
 use mathlib.Core.List.{List}
-use Prim.Native.Nat.{ℕ, _≤_, _<_}
+use Prim.Native.Nat.{ℕ, _≤_}
 use native.Mathlib.Decide.{decLt}
 use native.Mathlib.Omega.{arith}
 use lib.Dec.{ltb}
@@ -18,7 +18,7 @@ use Rattle.program.specs.Nodes.{nodeOf}
 use Rattle.program.specs.Kinds.{ruleOf}
 use Rattle.program.specs.Check.{fits}
 use Rattle.program.specs.Records.{ruleFits}
-use Rattle.program.proofs.RangeLaws.{every}
+use Rattle.program.specs.RangeLaws.{every}
 
 module _ {A : Type 0} (t : Bool) (a b m : A) (e : m ≡ cond t a b) where
   pub test-holds : (m ≡ b → ⊥) → true ≡ t

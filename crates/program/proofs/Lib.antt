@@ -1,4 +1,3 @@
-pub mod RangeLaws
 pub mod KindLaws
 pub mod ReadLaws
 pub mod FieldLaws
@@ -6,3 +5,4 @@ pub mod RecordLaws
 pub mod ScanSteps
 pub mod CheckLaws
 pub mod LostLaws
+pub mod PlaceLaws

@@ -1,15 +1,15 @@
 -- The second walk, to the first CALL whose node is none of the program's. Assumes nothing.
-use mathlib.Core.Path.{_≡_, refl, sym, ap, _∙_}
-use mathlib.Core.List.{List, [], _∷_}
-use mathlib.Core.Option.{Option, none, some}
+use mathlib.Core.Path.{_≡_, sym, ap, _∙_}
+use mathlib.Core.List.{List, []}
+use mathlib.Core.Option.{none, some}
 use Prim.Native.Nat.{ℕ, _+_, _*_, _≤_, _<_}
 use native.Mathlib.Omega.{arith}
-use lib.ListN.{length, drop}
-use Rattle.program.specs.Check.{Placed, Scanned, nodes, put, scan, badCall, Checked, verdict}
-use Rattle.program.specs.Records.{foundAt, scanned, AllGood, LostAt}
-use Rattle.program.specs.declared.check.Found.{Found}
+use lib.ListN.{length}
+use Rattle.program.specs.Check.{Placed, Scanned, badCall, verdict}
+use Rattle.program.specs.Records.{foundAt, AllGood, LostAt}
 use Rattle.program.specs.declared.check.Found.the-variants as Found′
-use Rattle.program.proofs.ScanSteps.{placed, from, Stepped, scan-end, scan-bad, scan-good}
+use Rattle.program.specs.ScanLaws.{placed, from, scan-end, split}
+use Rattle.program.proofs.ScanSteps.{scan-bad, scan-good}
 use Rattle.program.proofs.CheckLaws.{call-found, call-lost, verdict-lost}
 
 -- the records from here on are good, and the first lost CALL is among them
@@ -31,10 +31,6 @@ seeking-start p n k g = record {
   few = omega arith;
 }
 
-split : (x : Placed) (s : Scanned) (ys : List Placed) → put x s ≡ Scanned.nodes ys → (zs : List Placed) × (s ≡ Scanned.nodes zs) × (ys ≡ x ∷ zs)
-split x (Scanned.nodes zs) ys e = (zs, refl, cc)
-split x (Scanned.bad place) ys e = absurd (let z : _≡_ {A = ℕ} 0 1 = cc in omega arith)
-
 module _ (p : List ℕ) (n k own at : ℕ) (g : Seeking p n k own at) where
   pub seeking-end : length p ≤ at → ⊥
   unfolding badCall
@@ -53,17 +49,17 @@ module _ (p : List ℕ) (n k own at : ℕ) (g : Seeking p n k own at) where
       pub seeking-here : k < r → LostAt p n at
       seeking-here l =
           let s = scan-good p n own at h next r e in
-          let (zs, t, f) = split (placed p at) (from p n (own + 1) next) (g .ahead) (sym (s .step) ∙ g .left) in
-          g .first at (ap (λ (xs : List Placed). badCall k xs) f ∙ call-lost k (placed p at) zs (omega (arith, s .reach)))
+          let d = split (placed p at) (from p n (own + 1) next) (g .ahead) (sym (s .step) ∙ g .left) in
+          g .first at (ap (λ (xs : List Placed). badCall k xs) (d .all) ∙ call-lost k (placed p at) (d .rest) (omega (arith, s .reach)))
 
       pub seeking-on : r ≤ k → Seeking p n k (own + 1) next
       seeking-on l =
           let s = scan-good p n own at h next r e in
-          let (zs, t, f) = split (placed p at) (from p n (own + 1) next) (g .ahead) (sym (s .step) ∙ g .left) in
-          let same : badCall k (g .ahead) ≡ badCall k zs = ap (λ (xs : List Placed). badCall k xs) f ∙ call-found k (placed p at) zs (omega (arith, s .reach)) in
+          let d = split (placed p at) (from p n (own + 1) next) (g .ahead) (sym (s .step) ∙ g .left) in
+          let same : badCall k (g .ahead) ≡ badCall k (d .rest) = ap (λ (xs : List Placed). badCall k xs) (d .all) ∙ call-found k (placed p at) (d .rest) (omega (arith, s .reach)) in
           record {
-            ahead = zs;
-            left = t;
+            ahead = d .rest;
+            left = d .left;
             first = λ place q. g .first place (same ∙ q);
             lost = λ q. g .lost (same ∙ q);
             near = omega (arith, s .near, g .near);

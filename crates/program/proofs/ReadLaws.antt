@@ -1,9 +1,8 @@
 -- Reading a program's bytes: at a place of the program, and of the bytes from a place on. Assumes nothing.
 use mathlib.Core.Path.{_≡_, refl, sym, ap, _∙_}
 use mathlib.Core.List.{List, [], _∷_}
-use Prim.Native.Nat.{ℕ, zero, suc, _+_, _-_, _*_, _≤_, _<_, zero-le}
-use native.Mathlib.Nat.{add-assoc, add-zero}
-use native.Mathlib.Decide.{decLt}
+use Prim.Native.Nat.{ℕ, zero, suc, _+_, _-_, _*_, _≤_}
+use native.Mathlib.Nat.{add-assoc}
 use native.Mathlib.Omega.{arith}
 use lib.ListN.{length, getD, drop, List·getD-eq-default}
 use lib.Seq.{getD-drop}
@@ -12,9 +11,8 @@ use Rattle.numbers.specs.declared.integers.Operation.the-variants.{Lt}
 use Rattle.numbers.specs.Words.{numberAt, integerAt}
 use Rattle.numbers.proofs.WordLaws.{number-same}
 use Rattle.program.specs.Nodes.{nodeOf, nodeIn, operationOf}
-use Rattle.program.specs.declared.nodes.Node.{Node}
 use Rattle.program.specs.declared.nodes.Node.the-variants.{READ}
-use Rattle.program.proofs.RangeLaws.{every, NoneOf}
+use Rattle.program.specs.RangeLaws.{past, every, NoneOf}
 
 pub number-drop : (k a : ℕ) (p : List ℕ) (i : ℕ) → numberAt k (drop a p) i ≡ numberAt k p (a + i)
 number-drop k a p i = number-same k (drop a p) i p (a + i) (λ l h. getD-drop a p (i + l) 0 ∙ rw (add-assoc a i l))
@@ -41,9 +39,13 @@ Others k = NoneOf (13 ∷ 12 ∷ 11 ∷ 10 ∷ 9 ∷ 8 ∷ 7 ∷ 6 ∷ 4 ∷ 3 �
 pub other-read : (k : ℕ) (b : List ℕ) → Others k → READ ≡ nodeOf k b
 unfolding nodeOf
 other-read k b =
-    every (λ (j : ℕ). Others j → READ ≡ nodeOf j b) 14
-    (λ n. refl, (λ n. absurd (n .0 .0 .0 .0 .0 .0 .0 .0 .0 .0 .0 .1 refl), (λ n. absurd (n .0 .0 .0 .0 .0 .0 .0 .0 .0 .0 .1 refl), (λ n. absurd (n .0 .0 .0 .0 .0 .0 .0 .0 .0 .1 refl), (λ n. absurd (n .0 .0 .0 .0 .0 .0 .0 .0 .1 refl), (λ n. refl, (λ n. absurd (n .0 .0 .0 .0 .0 .0 .0 .1 refl), (λ n. absurd (n .0 .0 .0 .0 .0 .0 .1 refl), (λ n. absurd (n .0 .0 .0 .0 .0 .1 refl), (λ n. absurd (n .0 .0 .0 .0 .1 refl), (λ n. absurd (n .0 .0 .0 .1 refl), (λ n. absurd (n .0 .0 .1 refl), (λ n. absurd (n .0 .1 refl), (λ n. absurd (n .1 refl), tt))))))))))))))
-    (λ m n. refl)
+    every (λ (j : ℕ). Others j → READ ≡ nodeOf j b) 4
+    (λ n. refl, (λ n. absurd (n .0 .0 .0 .0 .0 .0 .0 .0 .0 .0 .0 .1 refl), (λ n. absurd (n .0 .0 .0 .0 .0 .0 .0 .0 .0 .0 .1 refl), (λ n. absurd (n .0 .0 .0 .0 .0 .0 .0 .0 .0 .1 refl), tt))))
+    (every (λ (j : ℕ). Others (past 4 j) → READ ≡ nodeOf (past 4 j) b) 4
+    (λ n. absurd (n .0 .0 .0 .0 .0 .0 .0 .0 .1 refl), (λ n. refl, (λ n. absurd (n .0 .0 .0 .0 .0 .0 .0 .1 refl), (λ n. absurd (n .0 .0 .0 .0 .0 .0 .1 refl), tt))))
+    (every (λ (j : ℕ). Others (past 8 j) → READ ≡ nodeOf (past 8 j) b) 6
+    (λ n. absurd (n .0 .0 .0 .0 .0 .1 refl), (λ n. absurd (n .0 .0 .0 .0 .1 refl), (λ n. absurd (n .0 .0 .0 .1 refl), (λ n. absurd (n .0 .0 .1 refl), (λ n. absurd (n .0 .1 refl), (λ n. absurd (n .1 refl), tt))))))
+    (λ m n. refl)))
     k
 
 -- and those that no arm of `operation_of` has are lt's, or no operation's

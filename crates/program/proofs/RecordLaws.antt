@@ -1,27 +1,23 @@
 -- A record at its place: what each way out of `record_at` says, and what a record found good tells. Assumes nothing.
 use mathlib.Core.Path.{_≡_, refl, sym, ap, _∙_}
 use mathlib.Core.Bool.{Bool, true, false, _&&_, cond}
-use mathlib.Core.List.{List, [], _∷_}
-use Prim.Native.Nat.{ℕ, zero, suc, _+_, _-_, _≤_, _<_}
+use mathlib.Core.List.{List}
+use Prim.Native.Nat.{ℕ, _+_, _-_, _≤_, _<_}
 use native.Mathlib.Nat.{add-zero}
 use native.Mathlib.Omega.{arith}
-use lib.Dec.{ltb, leb, eqb}
+use lib.Dec.{eqb}
 use lib.ListN.{length, getD, drop, length-drop}
-use borrow.Author.Tests.{lt-ltb, le-ltb, le-leb, lt-leb, leb-true, ltb-true, eq-eqb, ne-eqb}
+use borrow.Author.Tests.{lt-ltb, le-ltb, le-leb, lt-leb, eq-eqb, ne-eqb}
 use Rattle.numbers.specs.Words.{numberAt}
-use Rattle.parties.specs.Limits.{maxParties}
 use Rattle.program.specs.Nodes.{isNodeKind, bodyLength, nodeOf, nodeIn}
 use Rattle.program.specs.Kinds.{ruleOf, bodyOf}
-use Rattle.program.specs.Check.{fits, isGood, calls}
+use Rattle.program.specs.Check.{fits, isGood}
 use Rattle.program.specs.Records.{ruleFits, reachOf, foundAt, partiesIn}
 use Rattle.program.specs.declared.kinds.Rule.{Rule}
 use Rattle.program.specs.declared.kinds.Body.{Body}
 use Rattle.program.specs.declared.kinds.Body.the-variants as Body′
-use Rattle.program.specs.declared.nodes.Node.{Node}
-use Rattle.program.specs.declared.nodes.Node.the-variants.{VAR, INT, OP, MUX, READ, WRITE, EMBED, SHARE, REVEAL, LET, CASE, PAR, CALL}
-use Rattle.program.specs.declared.check.Found.{Found}
 use Rattle.program.specs.declared.check.Found.the-variants as Found′
-use Rattle.program.proofs.RangeLaws.{every}
+use Rattle.program.specs.RangeLaws.{every}
 use Rattle.program.proofs.FieldLaws.{rule-fits}
 use Rattle.program.proofs.ReadLaws.{number-drop}
 
@@ -51,15 +47,6 @@ unknown k e = go (isNodeKind k) refl e
 -- what the body of the kind at a place was found to be
 pub body-at : (p : List ℕ) (at : ℕ) {k : ℕ} {b x : Body} → k ≡ getD p at 0 → b ≡ bodyOf k → b ≡ x → bodyOf (getD p at 0) ≡ x
 body-at p at e f g = ap bodyOf (sym e) ∙ sym f ∙ g
-
-pub body-short : (k : ℕ) → bodyLength k ≤ 5
-unfolding bodyLength
-body-short k =
-    leb-true (bodyLength k) 5
-    (every (λ (j : ℕ). leb (bodyLength j) 5 ≡ true) 14
-    (refl, (refl, (refl, (refl, (refl, (refl, (refl, (refl, (refl, (refl, (refl, (refl, (refl, (refl, tt))))))))))))))
-    (λ m. refl)
-    k)
 
 -- ---- the record
 

@@ -4,8 +4,8 @@ use mathlib.Core.List.{List}
 use lib.ListN.{length}
 use Rattle.refusals.specs.Numbers.{badProgram}
 use Rattle.program.specs.Check.{Checked, good, bad, checked}
-use Rattle.program.specs.declared.check.Check.{Check}
-use Rattle.program.specs.declared.check.Check.the-variants as Check′
+use Rattle.program.specs.declared.check.Verdict.{Verdict}
+use Rattle.program.specs.declared.check.Verdict.the-variants as Verdict′
 
 pub data CheckAnswer : Type 0 where
   accepted : (parties nodes : ℕ) → CheckAnswer
@@ -20,6 +20,6 @@ unfoldable pub checkAnswer : List ℕ → CheckAnswer
 checkAnswer p = answerOf (checked p)
 
 -- what the code's answer says
-abbrev pub told : Check → CheckAnswer
-told (Check′.Good n k) = accepted n k
-told (Check′.Bad place) = refused badProgram place
+abbrev pub told : Verdict → CheckAnswer
+told (Verdict′.Good n k) = accepted n k
+told (Verdict′.Bad place) = refused badProgram place

@@ -11,7 +11,7 @@ use Rattle.parties.specs.Limits.{maxParties}
 use Rattle.parties.specs.Sets.{within}
 use Rattle.parties.specs.SetBytes.{setAt}
 use Rattle.program.specs.Nodes.{bodyLength, nameIn, nodeIn}
-use Rattle.program.specs.Check.{isOperation, isName, isFull, isGood, Placed, Scanned, scan, badCall, Checked, bad, verdict}
+use Rattle.program.specs.Check.{isOperation, isName, isFull, isGood, Placed, Scanned, scan, badCall, Checked, verdict}
 use Rattle.program.specs.declared.kinds.Rule.{Rule}
 use Rattle.program.specs.declared.kinds.Rule.the-variants.{Free, OneName, Operation, ThreeNames, Share, Reveal, Parts, Par, Call}
 use Rattle.program.specs.declared.nodes.Node.{Node}

@@ -8,20 +8,16 @@ ghost use Rattle.program.specs.Records.{reachOf, foundAt, partiesIn, All
 ghost use Rattle.program.specs.Answer.{told, checkAnswer};
 use crate::fields::fields_fit;
 use crate::kinds::Body;
+use crate::nodes::Node;
 use crate::nodes::byte;
 use crate::nodes::half;
 use parties::limits::Party;
 
-pub enum Check {
+pub enum Verdict {
     // the number of parties, and of nodes
     Good(u8, u16),
     // where the first bad record starts
     Bad(usize),
-}
-
-impl Check {
-    // There are at most so many nodes.
-    pub const MAX_NODES: usize = 1024;
 }
 
 enum Found {
@@ -44,7 +40,7 @@ fn parties_of(program: &[u8]) -> u8
     n
 }
 
-// One more than the node that a CALL names; 0 for any other record. A program of as many nodes has every node that it names.
+// One more than the node that a CALL names: so many nodes its program has to have. 0 for any other record.
 fn reach_at(program: &[u8], at: usize) -> usize
     requires { ⌜ at < 65536 ⌝ }
     ensures { λ r. ⌜ r ≡ reachOf (nodeIn (now (program .entry)) at) ⌝ }
@@ -60,7 +56,7 @@ fn record_at(program: &[u8], n: u8, own: usize, at: usize) -> Found
     requires { ⌜ (n ≤ maxParties) × (at < 65535) × (at < length (now program)) ⌝ }
     ensures { λ r. ⌜ r ≡ foundAt (now (program .entry)) n own at ⌝ }
 {
-    if Check::MAX_NODES <= own {
+    if Node::MAX <= own {
         return Found::Bad;
     }
     let Body::Node(length, rule) = crate::kinds::body_of(byte(program, at)) else {
@@ -69,9 +65,10 @@ fn record_at(program: &[u8], n: u8, own: usize, at: usize) -> Found
     if program.len() - at - 1 < length {
         return Found::Bad;
     }
+    let next = at + 1 + length;
     let reach = reach_at(program, at);
     if fields_fit(rule, program, at + 1, n, own) {
-        return Found::Good(at + 1 + length, reach);
+        return Found::Good(next, reach);
     }
     Found::Bad
 }
@@ -102,29 +99,30 @@ fn lost_call(program: &[u8], n: u8, nodes: usize) -> usize
     at
 }
 
-pub fn check_program(program: &[u8]) -> Check
+pub fn check(program: &[u8]) -> Verdict
     ensures { λ r. ⌜ told r ≡ checkAnswer (now (program .entry)) ⌝ }
 {
     let n = parties_of(program);
     if n == 0 {
-        return Check::Bad(0);
+        return Verdict::Bad(0);
     }
     let mut at = 2;
     let mut own = 0;
     let mut reach = 0;
     while at < program.len() {
         let Found::Good(next, r) = record_at(program, n, own, at) else {
-            return Check::Bad(at);
+            return Verdict::Bad(at);
         };
         at = next;
         own += 1;
         reach = greater(reach, r);
     }
     if own == 0 {
-        return Check::Bad(program.len());
+        return Verdict::Bad(program.len());
     }
     if reach <= own {
-        return Check::Good(n, own as u16);
+        let nodes = own as u16;
+        return Verdict::Good(n, nodes);
     }
-    Check::Bad(lost_call(program, n, own))
+    Verdict::Bad(lost_call(program, n, own))
 }

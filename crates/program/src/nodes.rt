@@ -33,6 +33,11 @@ pub enum Node {
     CALL(u16, Name),
 }
 
+impl Node {
+    // A program has at most so many.
+    pub const MAX: usize = 1024;
+}
+
 pub fn operation_of(o: u8) -> Operation
     ensures { λ r. ⌜ r ≡ operationOf o ⌝ }
 {

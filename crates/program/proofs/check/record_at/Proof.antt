@@ -31,6 +31,12 @@ sub-if2-2 c = search needs
 returns-3 : tie.Need-returns-3
 returns-3 c = let a = c .before .before .before .before .before .before .before .before .args in found-cut (a .program .now) (a .n) (a .own) (a .at) (c .before .before .before .before .before .before .if1 .left) _ _ (body-at (a .program .now) (a .at) (c .before .before .before .before .before .byte .ensures) (c .before .before .before .before .body-of .ensures) (c .before .before .length .given .1)) (c .if2 .taken)
 
+add-next : tie.Need-add-next
+add-next c = search needs
+
+add-next-2 : tie.Need-add-next-2
+add-next-2 c = search needs
+
 reach-at-requires : tie.Need-reach-at-requires
 reach-at-requires c κs = search needs
 
@@ -39,12 +45,6 @@ add-fields-fit c = search needs
 
 fields-fit-requires : tie.Need-fields-fit-requires
 fields-fit-requires c κs = search needs
-
-add-t15 : tie.Need-add-t15
-add-t15 c = search needs
-
-add-t16 : tie.Need-add-t16
-add-t16 c = search needs
 
 returns-4 : tie.Need-returns-4
 returns-4 c = let a = c .before .before .before .before .before .before .before .before .before .before .before .args in found-good (a .program .now) (a .n) (a .own) (a .at) (c .before .before .before .before .before .before .before .before .before .if1 .left) _ _ (body-at (a .program .now) (a .at) (c .before .before .before .before .before .before .before .before .byte .ensures) (c .before .before .before .before .before .before .before .body-of .ensures) (c .before .before .before .before .before .length .given .1)) (c .before .before .before .if2 .left) _ (c .before .fields-fit .ensures) (c .if3 .taken) _ (c .before .before .reach-at .ensures)
@@ -65,10 +65,10 @@ record-at-spec =
     sub-if2
     sub-if2-2
     returns-3
+    add-next
+    add-next-2
     reach-at-requires
     add-fields-fit
     fields-fit-requires
-    add-t15
-    add-t16
     returns-4
     returns-5)

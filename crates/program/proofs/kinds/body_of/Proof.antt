@@ -5,7 +5,7 @@ use Rattle.program.specs.Nodes.{bodyLength}
 use Rattle.program.specs.Kinds.{bodyOf, ruleOf}
 use Rattle.program.specs.declared.kinds.Rule.the-variants.{OneName, Parts}
 use Rattle.program.specs.declared.kinds.Body.the-variants.{Node, Unknown}
-use Rattle.program.proofs.RangeLaws.{above}
+use Rattle.program.specs.RangeLaws.{above}
 use Rattle.program.proofs.KindLaws.{key, arm, past}
 use Rattle.program.proofs.kinds.body_of.Statement.{statement}
 use Rattle.program.proofs.kinds.body_of.Tie as tie

@@ -1,4 +1,4 @@
--- `program::check::check_program` meets its contract. Assumes nothing.
+-- `program::check::check` meets its contract. Assumes nothing.
 use mathlib.Core.Path.{sym, _∙_}
 use Prim.Native.Nat.{_-_}
 use native.Mathlib.Omega.{arith}
@@ -6,8 +6,8 @@ use borrow.Author.Needs.{needs}
 use lib.ListN.{length}
 use Rattle.program.proofs.ScanSteps.{scan-good}
 use Rattle.program.proofs.CheckLaws.{parties-good, answer-none, answer-is, answer-bad, Going, going-start, going-bad, going-on, going-none, going-good, going-lost}
-use Rattle.program.proofs.check.check_program.Statement.{statement}
-use Rattle.program.proofs.check.check_program.Tie as tie
+use Rattle.program.proofs.check.check.Statement.{statement}
+use Rattle.program.proofs.check.check.Tie as tie
 
 abbrev Inv-loop : tie.InvT-loop
 Inv-loop program n at₀ own₀ reach₀ at own reach = Going program n own at reach
@@ -51,8 +51,8 @@ loop-again c = rw (c .greater .ensures) (going-on (c .before .before .before .be
 returns-3 : tie.Need-returns-3 Inv-loop μ-loop
 returns-3 c = let p = c .before .before .before .before .before .before .args .program .now in answer-bad p _ (c .before .before .before .before .parties-of .ensures) (c .before .before .before .if1 .left) _ (going-none p _ _ _ _ (c .before .before .loop .inv) (c .before .loop-test .left) (c .if2 .taken))
 
-cast-t13 : tie.Need-cast-t13 Inv-loop μ-loop
-cast-t13 c = omega (arith, c .before .before .before .loop .inv .few)
+cast-nodes : tie.Need-cast-nodes Inv-loop μ-loop
+cast-nodes c = omega (arith, c .before .before .before .loop .inv .few)
 
 returns-4 : tie.Need-returns-4 Inv-loop μ-loop
 returns-4 c = let p = c .before .before .before .before .before .before .before .args .program .now in answer-is p _ (c .before .before .before .before .before .parties-of .ensures) (c .before .before .before .before .if1 .left) _ (going-good p _ _ _ _ (c .before .before .before .loop .inv) (c .before .before .loop-test .left) (omega arith) (c .if3 .taken))
@@ -63,8 +63,8 @@ lost-call-requires c κs = let p = c .before .before .before .before .before .be
 returns-5 : tie.Need-returns-5 Inv-loop μ-loop
 returns-5 c = answer-bad (c .before .before .before .before .before .before .before .before .args .program .now) _ (c .before .before .before .before .before .before .parties-of .ensures) (c .before .before .before .before .before .if1 .left) _ (c .lost-call .ensures)
 
-pub check-program-spec : {M : Type 1} → statement M
-check-program-spec =
+pub check-spec : {M : Type 1} → statement M
+check-spec =
     tie.close
     (tie.spec
     Inv-loop
@@ -81,7 +81,7 @@ check-program-spec =
     loop-less
     loop-again
     returns-3
-    cast-t13
+    cast-nodes
     returns-4
     lost-call-requires
     returns-5)
