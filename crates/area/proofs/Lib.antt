@@ -1,0 +1,5 @@
+pub mod CellsLaws
+pub mod LevelLaws
+pub mod MoveLaws
+pub mod LookupLaws
+pub mod TableLaws

@@ -1,0 +1,4 @@
+pub mod Levels
+pub mod Binding
+pub mod Lookup
+pub mod Table

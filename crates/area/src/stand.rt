@@ -1,0 +1,18 @@
+// Where control stands. The bindings and the frames lie in the area's levels: the present bindings are the level that is numbered by the
+// frames that are down, and each frame is a level below it, where it lay when it was put down.
+use parties::limits::Depth;
+use parties::sets::PartySet;
+use values::value::Value;
+
+pub struct Stand {
+    pub node: u16,
+    pub mode: PartySet,
+    pub depth: Depth,
+}
+
+pub enum Next {
+    On(Stand),
+    Ends(Value),
+    // no frame more can be put down
+    Full,
+}

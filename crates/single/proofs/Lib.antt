@@ -1,0 +1,6 @@
+pub mod PartLaws
+pub mod RowLaws
+pub mod RoomLaws
+pub mod WriteLaws
+pub mod LedgerLaws
+pub mod EndLaws
