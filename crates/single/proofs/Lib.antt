@@ -4,3 +4,8 @@ pub mod RoomLaws
 pub mod WriteLaws
 pub mod LedgerLaws
 pub mod EndLaws
+pub mod StepLaws
+pub mod InputLaws
+pub mod ReadLaws
+pub mod PerformLaws
+pub mod SoundLaws

@@ -1,2 +1,4 @@
 pub mod Ledger
 pub mod Writes
+pub mod Inputs
+pub mod Steps
