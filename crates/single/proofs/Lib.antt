@@ -9,3 +9,6 @@ pub mod InputLaws
 pub mod ReadLaws
 pub mod PerformLaws
 pub mod SoundLaws
+pub mod RunLaws
+pub mod DriveLaws
+pub mod CallLaws

@@ -1,0 +1,88 @@
+-- The start of a run: nothing used, the inputs divided, the area prepared. Assumes nothing.
+use mathlib.Core.Path.{_≡_, refl, sym, ap, _∙_, subst}
+use mathlib.Core.List.{List, []}
+use Prim.Native.Nat.{ℕ, zero, suc, _+_, _-_, _*_, _≤_, _<_}
+use native.Mathlib.Numerals.{add-one}
+use native.Mathlib.Omega.{arith}
+use lib.IntN.{ℤ}
+use lib.ListN.{length, getD, set, replicate}
+use Rattle.parties.specs.Limits.{maxParties}
+use Rattle.parties.specs.Sets.{all}
+use Rattle.parties.specs.declared.sets.PartySet.{PartySet}
+use Rattle.program.specs.Check.{Program, good, checked}
+use Rattle.records.specs.Events.{written, heldBack}
+use Rattle.rules.specs.Books.{Books, opening, used}
+use Rattle.rules.specs.Moves.{Control, start}
+use Rattle.rules.specs.Names.{noneBound}
+use Rattle.rules.specs.Single.{Single, going, run, after}
+use Rattle.rules.specs.Lent.{Lent, inputsOf, recordsLeft, lengthsLeft}
+use Rattle.area.specs.Levels.{controlOf}
+use Rattle.area.specs.Table.{Prepared}
+use Rattle.area.specs.declared.stand.Stand.{Stand}
+use Rattle.area.proofs.LevelLaws.{fresh}
+use Rattle.single.specs.Ledger.{Holds, Fits}
+use Rattle.single.specs.Inputs.{Divided, InputsHold}
+use Rattle.single.specs.Steps.{Lists, Given, Stands}
+use Rattle.single.specs.Runs.{Finishes, noneUsed, RunsOn, Drives}
+use Rattle.single.specs.declared.runs.Answer.{Answer}
+use Rattle.single.proofs.InputLaws.{inputs-start}
+
+-- ---- lengths of 0
+pub none-zero : (ls : List ℕ) → ls ≡ noneUsed 0 ls
+unfolding noneUsed
+none-zero ls = refl
+
+pub none-more : (p : ℕ) (ls₀ ls : List ℕ) → ls ≡ noneUsed p ls₀ → set ls p 0 ≡ noneUsed (p + 1) ls₀
+unfolding noneUsed
+none-more p ls₀ ls e = rw (e, add-one p)
+
+pub none-all : (p n : ℕ) (ls₀ ls : List ℕ) → p ≤ n → n ≤ p → ls ≡ noneUsed p ls₀ → ls ≡ noneUsed n ls₀
+none-all p n ls₀ ls h l e = let q : p ≡ n = omega arith in e ∙ ap (λ (k : ℕ). noneUsed k ls₀) q
+
+-- ---- the books at the start, in the lent bytes
+module _ (inputs : ℕ → List ℤ) where
+  opening-lengths : (n : ℕ) (ls : List ℕ) → noneUsed n ls ≡ lengthsLeft n (opening inputs) ls
+  unfolding noneUsed lengthsLeft used written
+  opening-lengths zero ls = refl
+  opening-lengths (suc n) ls = ap (λ (x : List ℕ). set x n 0) (opening-lengths n ls)
+
+  opening-records : (n R : ℕ) (xs : List ℕ) → xs ≡ recordsLeft n R (opening inputs) xs
+  unfolding recordsLeft written
+  opening-records zero R xs = refl
+  opening-records (suc n) R xs = opening-records n R xs
+
+  opening-fits : (R n : ℕ) → heldBack ≤ R → Fits R n (opening inputs)
+  unfolding used written
+  opening-fits R n h P l = omega arith
+
+zeros : (k P : ℕ) → getD {A = ℕ} (replicate k 0) P 0 ≡ 0
+zeros zero P = refl
+zeros (suc k) zero = refl
+zeros (suc k) (suc P) = zeros k P
+
+starts-at : (p : Program) (n nodes : ℕ) (mode : PartySet) → mode ≡ all n → p .parties ≡ n → length (p .nodes) ≡ nodes
+    → record { node = nodes - 1; mode = mode; names = noneBound; frames = [] } ≡ start p
+unfolding start
+starts-at p n nodes mode em q len = rw (em, q, len)
+
+pub drives-by : (bs : List ℕ) (n nodes room : ℕ) (counts : List ℕ) (is : List ℤ) (budget : ℕ) (a : Answer) (xs ls xs′ ls′ at end ls₁ w₁ : List ℕ) (mode : PartySet)
+    → n * room ≤ length xs → n ≤ length ls → Divided counts (replicate 16 0) (replicate 16 0) at end → ls₁ ≡ noneUsed n ls → Prepared bs nodes w₁ → mode ≡ all n
+    → RunsOn bs nodes room n is end budget (record { node = nodes - 1; mode = mode; depth = record { frames = 0 } }) a (record { bytes = xs; lengths = ls₁; work = w₁; at = at }) xs′ ls′
+    → Drives bs n nodes room counts is budget a xs ls xs′ ls′
+unfolding after
+drives-by bs n nodes room counts is budget a xs ls xs′ ls′ at end ls₁ w₁ mode long places d e w em r =
+    record {
+      comes = λ p L g q len ec ei hb.
+          let G : Given room n = record { inputs = is; end = end; bytes₀ = xs; lengths₀ = ls; long = long; places = places } in
+          let ins : InputsHold maxParties is at end (opening (inputsOf L))
+          = subst (λ (x : List ℤ). InputsHold maxParties x at end (opening (inputsOf L))) ei
+          (inputs-start L (replicate 16 0) (replicate 16 0) at end (zeros 16) (zeros 16) (subst (λ (x : List ℕ). Divided x (replicate 16 0) (replicate 16 0) at end) (sym ec) d) maxParties) in
+          let st : Stands G (opening (inputsOf L)) (record { bytes = xs; lengths = ls₁; work = w₁; at = at })
+          = record {
+            holds = record { bytes = opening-records (inputsOf L) n room xs; lengths = e ∙ opening-lengths (inputsOf L) n ls };
+            fits = opening-fits (inputsOf L) room n hb;
+            inputs = ins;
+          } in
+          subst (λ (c : Control). Finishes a room n xs ls (run (record { program = p; room = room }) budget (going 0 c (opening (inputsOf L)))) xs′ ls′) (fresh (nodes - 1) mode w₁ (w .fresh) ∙ starts-at p n nodes mode em q len)
+          (r .comes G refl refl p g q len (w .places) (opening (inputsOf L)) st);
+    }
