@@ -155,23 +155,24 @@ sole-member s i j e hi mi hj mj =
           ]
     ]
 
--- the lowest is a member, where there is one
-lowest-in : (k i j : ℕ) (s : PartySet) → i ≤ j → j < i + k → member j s ≡ true → (member (lowestFrom k i s) s ≡ true) × (lowestFrom k i s < i + k)
-unfolding lowestFrom
-lowest-in zero i j s h l e = absurd (omega arith)
-lowest-in (suc k) i j s h l e = go (member i s) refl (λ o. lowest-in k (suc i) j s o (omega arith) e)
+-- the lowest party of a set that has some is one of them
+no-bit : (i : ℕ) (s : PartySet) → member i s ≡ false → bit i (s .bits) ≡ 0
+unfolding member
+no-bit i s q = omega (arith, eqb-false (bit i (s .bits)) 1 q)
+
+counted-some : (k i : ℕ) (s : PartySet) → 1 ≤ countFrom k i s → (member (lowestFrom k i s) s ≡ true) × (lowestFrom k i s < i + k)
+unfolding countFrom lowestFrom
+counted-some zero i s h = absurd (omega arith)
+counted-some (suc k) i s h = go (member i s) refl (counted-some k (suc i) s)
   where
-    go : (t : Bool) → member i s ≡ t → (suc i ≤ j → (member (lowestFrom k (suc i) s) s ≡ true) × (lowestFrom k (suc i) s < suc i + k))
+    go : (t : Bool) → member i s ≡ t → (1 ≤ countFrom k (suc i) s → (member (lowestFrom k (suc i) s) s ≡ true) × (lowestFrom k (suc i) s < suc i + k))
         → (member (cond t i (lowestFrom k (suc i) s)) s ≡ true) × (cond t i (lowestFrom k (suc i) s) < i + suc k)
     go true q r = (q, omega arith)
-    go false q r =
-        elim (decLt i j) [
-          | yes o ↦ (r o .0, omega (arith, r o .1))
-          | no o ↦ let p : j ≡ i = omega arith in absurd (false≢true (sym q ∙ (rw p at e)))
-        ]
+    go false q r = let l = r (omega (arith, no-bit i s q)) in (l .0, omega (arith, l .1))
+
+pub lowest-one : (m : PartySet) → count m ≡ 1 → (member (lowest m) m ≡ true) × (lowest m < maxParties)
+unfolding count lowest
+lowest-one m e = let l = counted-some 16 0 m (omega arith) in (l .0, omega (arith, l .1))
 
 pub only-member : (s : PartySet) (i : ℕ) → count s ≡ 1 → i < maxParties → member i s ≡ true → lowest s ≡ i
-unfolding lowest
-only-member s i e h m =
-    let l = lowest-in 16 0 i s (omega arith) (omega arith) m in
-    sole-member s (lowestFrom 16 0 s) i e (omega (arith, l .1)) (l .0) h m
+only-member s i e h m = let l = lowest-one s e in sole-member s (lowest s) i e (l .1) (l .0) h m

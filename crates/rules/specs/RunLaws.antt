@@ -1,12 +1,12 @@
--- What a reader expects of the single run: a step more is one step, and nobody meets with empty hands. Assumes nothing.
+-- What a reader expects of the single run: a step more is one step; nobody meets with empty hands, and only a mode of one party reads. Assumes nothing.
 use Prim.Native.Nat.{ℕ, zero, suc}
 use mathlib.Core.Path.{_≡_, refl}
 use mathlib.Core.Bool.{Bool, true, false, cond, _&&_, Bool·beq}
 use mathlib.Core.List.{List}
-use lib.Dec.{eqb}
+use borrow.Author.Tests.{eqb-true}
 use lib.IntN.{ℤ}
 use Rattle.numbers.specs.Integers.{operate}
-use Rattle.parties.specs.Sets.{member, sameSet, join, makeUp}
+use Rattle.parties.specs.Sets.{member, sameSet, join, makeUp, count}
 use Rattle.parties.specs.declared.limits.Party.{Party}
 use Rattle.parties.specs.declared.sets.PartySet.{PartySet}
 use Rattle.values.specs.Values.{held, hadBy}
@@ -17,7 +17,7 @@ use Rattle.values.specs.declared.value.Held.the-variants.{Number, Other}
 use Rattle.program.specs.Nodes.{operationOf}
 use Rattle.program.specs.declared.nodes.Node.{Node}
 use Rattle.program.specs.declared.nodes.Node.the-variants.{VAR, INT, OP, MUX, READ, WRITE, EMBED, SHARE, REVEAL, LET, CASE, PAR, CALL}
-use Rattle.refusals.specs.Numbers.{wrongValue}
+use Rattle.refusals.specs.Numbers.{wrongValue, wrongMode}
 use Rattle.rules.specs.Names.{Names, Looked, found, unbound, lookAll, namesOf, first, second, third}
 use Rattle.rules.specs.Rules.{unless, onTwo, onThree, mux, ifClear, alone, giverShares, atShare, holderOpens, atReveal, goesIn, judge, withValues, rule}
 use Rattle.rules.specs.Single.{Setting, Single, going, ended, stopped, step, run}
@@ -36,73 +36,74 @@ run-one-more S (suc k) (going t c b) = run-one-more S k (step S (going t c b))
 run-one-more S (suc k) (ended t v b) = refl
 run-one-more S (suc k) (stopped t r e b) = refl
 
--- ---- who makes all the checks at once meets with a number
+-- ---- what a rule can ask of all of a mode at once
 
--- not a meeting with empty hands
-abbrev pub Brings : Effect → Type 0
-Brings (Refuse refusal) = Unit {0}
-Brings (Goes mv) = Unit {0}
-Brings Reads = Unit {0}
-Brings (Writes i) = Unit {0}
-Brings (Meets mt Empty) = ⊥
-Brings (Meets mt (Secret i h)) = Unit {0}
+-- no meeting with empty hands, and reading only where the mode has one party
+abbrev pub Sound : PartySet → Effect → Type 0
+Sound m (Refuse refusal) = Unit {0}
+Sound m (Goes mv) = Unit {0}
+Sound m Reads = count m ≡ 1
+Sound m (Writes i) = Unit {0}
+Sound m (Meets mt Empty) = ⊥
+Sound m (Meets mt (Secret i h)) = Unit {0}
 
-unless-brings : (refusal : ℕ) (t : Bool) (e : Effect) → Brings e → Brings (unless refusal t e)
-unless-brings refusal true e h = h
-unless-brings refusal false e h = tt
+module _ (m : PartySet) where
+  unless-sound : (refusal : ℕ) (t : Bool) (e : Effect) → (t ≡ true → Sound m e) → Sound m (unless refusal t e)
+  unless-sound refusal true e h = h refl
+  unless-sound refusal false e h = tt
 
-either-brings : (t : Bool) (e f : Effect) → Brings e → Brings f → Brings (cond t e f)
-either-brings true e f g h = g
-either-brings false e f g h = h
+  either-sound : (t : Bool) (e f : Effect) → Sound m e → Sound m f → Sound m (cond t e f)
+  either-sound true e f g h = g
+  either-sound false e f g h = h
 
-two-brings : (m : PartySet) (f : ℤ → ℤ → ℤ) (g h : Held) → Brings (onTwo m f g h)
-two-brings m f (Number s i) (Number t j) = unless-brings wrongValue (Bool·beq s t) _ tt
-two-brings m f (Number s i) Other = tt
-two-brings m f Other h = tt
+  two-sound : (f : ℤ → ℤ → ℤ) (g h : Held) → Sound m (onTwo m f g h)
+  two-sound f (Number s i) (Number t j) = unless-sound wrongValue (Bool·beq s t) _ (λ e. tt)
+  two-sound f (Number s i) Other = tt
+  two-sound f Other h = tt
 
-three-brings : (m : PartySet) (f : ℤ → ℤ → ℤ → ℤ) (g h k : Held) → Brings (onThree m f g h k)
-three-brings m f (Number s i) (Number t j) (Number u k) = unless-brings wrongValue (Bool·beq s t && Bool·beq s u) _ tt
-three-brings m f (Number s i) (Number t j) Other = tt
-three-brings m f (Number s i) Other h = tt
-three-brings m f Other g h = tt
+  three-sound : (f : ℤ → ℤ → ℤ → ℤ) (g h k : Held) → Sound m (onThree m f g h k)
+  three-sound f (Number s i) (Number t j) (Number u k) = unless-sound wrongValue (Bool·beq s t && Bool·beq s u) _ (λ e. tt)
+  three-sound f (Number s i) (Number t j) Other = tt
+  three-sound f (Number s i) Other h = tt
+  three-sound f Other g h = tt
 
-clear-brings : (h : Held) (k : ℤ → Effect) → ((i : ℤ) → Brings (k i)) → Brings (ifClear h k)
-clear-brings (Number true i) k b = tt
-clear-brings (Number false i) k b = b i
-clear-brings Other k b = tt
+  clear-sound : (h : Held) (k : ℤ → Effect) → ((i : ℤ) → Sound m (k i)) → Sound m (ifClear h k)
+  clear-sound (Number true i) k b = tt
+  clear-sound (Number false i) k b = b i
+  clear-sound Other k b = tt
 
-giver-brings : (m : PartySet) (a : Party) (q : PartySet) (v : Value) → Brings (giverShares m a q v)
-unfolding giverShares
-giver-brings m a q Nothing = tt
-giver-brings m a q (Clear i l) = unless-brings 6 (member (a .index) l) _ (unless-brings 7 (makeUp (a .index) q m) _ tt)
-giver-brings m a q (Share i h l) = tt
+  giver-sound : (a : Party) (q : PartySet) (v : Value) → Sound m (giverShares m a q v)
+  unfolding giverShares
+  giver-sound a q Nothing = tt
+  giver-sound a q (Clear i l) = unless-sound wrongValue (member (a .index) l) _ (λ e. unless-sound wrongMode (makeUp (a .index) q m) _ (λ f. tt))
+  giver-sound a q (Share i h l) = tt
 
-holder-brings : (m q : PartySet) (v : Value) → Brings (holderOpens m q v)
-unfolding holderOpens
-holder-brings m q Nothing = tt
-holder-brings m q (Clear i l) = tt
-holder-brings m q (Share i h l) = unless-brings 6 (sameSet l h) _ (unless-brings 7 (sameSet (join h q) m) _ tt)
+  holder-sound : (q : PartySet) (v : Value) → Sound m (holderOpens m q v)
+  unfolding holderOpens
+  holder-sound q Nothing = tt
+  holder-sound q (Clear i l) = tt
+  holder-sound q (Share i h l) = unless-sound wrongValue (sameSet l h) _ (λ e. unless-sound wrongMode (sameSet (join h q) m) _ (λ f. tt))
 
-judge-brings : (e : Node) (m : PartySet) (vs : List Value) → Brings (judge Whole e m vs)
-unfolding judge atShare atReveal
-judge-brings (VAR x) m vs = tt
-judge-brings (INT i) m vs = tt
-judge-brings (OP o x y) m vs = two-brings m (operate (operationOf o)) (held m (first vs)) (held m (second vs))
-judge-brings (MUX x y z) m vs = three-brings m mux (held m (first vs)) (held m (second vs)) (held m (third vs))
-judge-brings READ m vs = unless-brings 7 (alone m) Reads tt
-judge-brings (WRITE x) m vs = clear-brings (held m (first vs)) _ (λ i. unless-brings 7 (alone m) (Writes i) tt)
-judge-brings (EMBED x) m vs = clear-brings (held m (first vs)) _ (λ i. tt)
-judge-brings (SHARE a q x) m vs = giver-brings m a q (first vs)
-judge-brings (REVEAL q x) m vs = holder-brings m q (first vs)
-judge-brings (LET x e1 e2) m vs = tt
-judge-brings (CASE x e1 e2) m vs = clear-brings (held m (first vs)) _ (λ i. tt)
-judge-brings (PAR p e) m vs = either-brings (goesIn Whole m p) _ _ tt tt
-judge-brings (CALL f x) m vs = tt
+  judge-sound : (e : Node) (vs : List Value) → Sound m (judge Whole e m vs)
+  unfolding judge atShare atReveal alone
+  judge-sound (VAR x) vs = tt
+  judge-sound (INT i) vs = tt
+  judge-sound (OP o x y) vs = two-sound (operate (operationOf o)) (held m (first vs)) (held m (second vs))
+  judge-sound (MUX x y z) vs = three-sound mux (held m (first vs)) (held m (second vs)) (held m (third vs))
+  judge-sound READ vs = unless-sound wrongMode (alone m) Reads (λ e. eqb-true (count m) 1 e)
+  judge-sound (WRITE x) vs = clear-sound (held m (first vs)) _ (λ i. unless-sound wrongMode (alone m) (Writes i) (λ e. tt))
+  judge-sound (EMBED x) vs = clear-sound (held m (first vs)) _ (λ i. tt)
+  judge-sound (SHARE a q x) vs = giver-sound a q (first vs)
+  judge-sound (REVEAL q x) vs = holder-sound q (first vs)
+  judge-sound (LET x e1 e2) vs = tt
+  judge-sound (CASE x e1 e2) vs = clear-sound (held m (first vs)) _ (λ i. tt)
+  judge-sound (PAR p e) vs = either-sound (goesIn Whole m p) _ _ tt tt
+  judge-sound (CALL f x) vs = tt
 
-pub whole-brings : (e : Node) (m : PartySet) (b : Names) → Brings (rule Whole e m b)
-unfolding rule
-whole-brings e m b = go (lookAll m b (namesOf e))
-  where
-    go : (r : Looked) → Brings (withValues r λ vs. judge Whole e m vs)
-    go (found vs) = judge-brings e m vs
-    go (unbound x) = tt
+  pub whole-sound : (e : Node) (b : Names) → Sound m (rule Whole e m b)
+  unfolding rule
+  whole-sound e b = go (lookAll m b (namesOf e))
+    where
+      go : (r : Looked) → Sound m (withValues r λ vs. judge Whole e m vs)
+      go (found vs) = judge-sound e vs
+      go (unbound x) = tt

@@ -63,7 +63,7 @@ readAll S t c b [] = stopped t noInput (c .node) b
 readAll S t c b (i ∷ is) = settleAll S t c b (some (Read i)) (Hand (Clear i (c .mode)))
 
 -- What an effect does; a write hands back 0, where 001 hands back what was written. All checks of SHARE and REVEAL are made at once here, so
--- nobody meets with empty hands (whole-brings): that case is there for the sites, and would be a value of the wrong sort.
+-- nobody meets with empty hands (whole-sound): that case is there for the sites, and would be a value of the wrong sort.
 unfoldable pub perform : Setting → ℕ → Control → Books → Effect → Single
 perform S t c b (Refuse refusal) = stopped t refusal (c .node) b
 perform S t c b (Goes mv) = settleAll S t c b none mv

@@ -8,7 +8,6 @@ pub mod StepLaws
 pub mod InputLaws
 pub mod ReadLaws
 pub mod PerformLaws
-pub mod SoundLaws
 pub mod RunLaws
 pub mod DriveLaws
 pub mod CallLaws

@@ -12,7 +12,7 @@ use lib.IntN.{ℤ}
 use lib.ListN.{length, getD, set, take, drop, drop-of-length-le}
 use Rattle.parties.specs.Limits.{maxParties}
 use Rattle.parties.specs.Sets.{bit, member, countFrom, count, lowestFrom, lowest}
-use Rattle.parties.specs.SetLaws.{sole-member}
+use Rattle.parties.specs.SetLaws.{sole-member, lowest-one}
 use Rattle.parties.specs.declared.sets.PartySet.{PartySet}
 use Rattle.values.specs.declared.value.Value.the-variants.{Clear}
 use Rattle.program.specs.Check.{Program}
@@ -29,26 +29,6 @@ use Rattle.single.specs.declared.inputs.Taken.the-variants.{Input, UsedU
 use Rattle.single.specs.declared.steps.Stepped.{Stepped}
 use Rattle.single.specs.declared.steps.Stepped.the-variants.{Stopped}
 use Rattle.single.proofs.InputLaws.{inputs-taken, head-none, head-some}
-
--- ---- the one party of a mode
-
-no-bit : (i : ℕ) (s : PartySet) → member i s ≡ false → bit i (s .bits) ≡ 0
-unfolding member
-no-bit i s q = omega (arith, eqb-false (bit i (s .bits)) 1 q)
-
-counted-some : (k i : ℕ) (s : PartySet) → 1 ≤ countFrom k i s → (member (lowestFrom k i s) s ≡ true) × (lowestFrom k i s < i + k)
-unfolding countFrom lowestFrom
-counted-some zero i s h = absurd (omega arith)
-counted-some (suc k) i s h = go (member i s) refl (counted-some k (suc i) s)
-  where
-    go : (t : Bool) → member i s ≡ t → (1 ≤ countFrom k (suc i) s → (member (lowestFrom k (suc i) s) s ≡ true) × (lowestFrom k (suc i) s < suc i + k))
-        → (member (cond t i (lowestFrom k (suc i) s)) s ≡ true) × (cond t i (lowestFrom k (suc i) s) < i + suc k)
-    go true q r = (q, omega arith)
-    go false q r = let l = r (omega (arith, no-bit i s q)) in (l .0, omega (arith, l .1))
-
-pub lowest-one : (m : PartySet) → count m ≡ 1 → (member (lowest m) m ≡ true) × (lowest m < maxParties)
-unfolding count lowest
-lowest-one m e = let l = counted-some 16 0 m (omega arith) in (l .0, omega (arith, l .1))
 
 -- ---- what the books have once the one party has noted that it read i
 

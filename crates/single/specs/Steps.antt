@@ -91,14 +91,6 @@ pub record ReadsIn (room n : ℕ) (is : List ℤ) (end : List ℕ) (t : Stand) (
   pub table : take tableSize (l′ .work) ≡ take tableSize (l .work)
   pub deep : DeepAfter y
 
--- an effect that asks to read is one in a mode of one party
-abbrev pub Sound : PartySet → Effect → Type 0
-Sound m (Refuse refusal) = Unit {0}
-Sound m (Goes mv) = Unit {0}
-Sound m Reads = count m ≡ 1
-Sound m (Writes i) = Unit {0}
-Sound m (Meets mt o) = Unit {0}
-
 -- an effect is done
 pub record Performs (room n : ℕ) (is : List ℤ) (end : List ℕ) (effect : Effect) (t : Stand) (y : Stepped) (l l′ : Lists) : Type 0 where
   pub comes : (G : Given room n) → G .inputs ≡ is → G .end ≡ end → (p : Program) → p .parties ≡ n → (k : ℕ) (b : Books) → Stands G b l

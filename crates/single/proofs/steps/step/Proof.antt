@@ -6,8 +6,7 @@ use Rattle.rules.specs.Rules.{rule}
 use Rattle.rules.specs.declared.effects.Effect.{Effect}
 use Rattle.rules.specs.declared.effects.View.the-variants.{Whole}
 use Rattle.area.specs.Levels.{namesAt}
-use Rattle.single.specs.Steps.{Sound}
-use Rattle.single.proofs.SoundLaws.{rule-sound}
+use Rattle.rules.specs.RunLaws.{Sound, whole-sound}
 use Rattle.single.proofs.PerformLaws.{steps-on}
 use Rattle.single.proofs.steps.step.Statement.{statement}
 use Rattle.single.proofs.steps.step.Tie as tie
@@ -21,7 +20,7 @@ effect-requires c κs = search needs
 performed-requires : tie.Need-performed-requires
 performed-requires c κs = let p = c .before .before .before .before .before .before .before .before .before .before .before .before .before .before .pre in
     let m = c .before .before .before .before .before .before .before .before .before .before .before .before .before .before .args .t .mode in
-    (p .0, p .1, p .2, p .3, p .4, p .5, p .6, subst (λ (x : Effect). Sound m x) (sym (c .before .before .before .before .effect .ensures)) (rule-sound m _ _))
+    (p .0, p .1, p .2, p .3, p .4, p .5, p .6, subst (λ (x : Effect). Sound m x) (sym (c .before .before .before .before .effect .ensures)) (whole-sound m _ _))
 
 same-length : tie.Need-same-length
 same-length c = search needs
