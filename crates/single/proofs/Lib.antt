@@ -11,3 +11,4 @@ pub mod PerformLaws
 pub mod RunLaws
 pub mod DriveLaws
 pub mod CallLaws
+pub mod OneAnswer
