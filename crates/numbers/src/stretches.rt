@@ -8,7 +8,7 @@ ghost use Rattle.numbers.specs.Stretches.{copied, Apart};
 pub fn zero(s: &mut [u8])
     ensures { λ _. ⌜ now (s .exit) ≡ replicate (length (now (s .entry))) 0 ⌝ }
 {
-    let mut i = 0;
+    let mut i: usize = 0;
     while i < s.len() {
         s[i] = 0;
         i += 1;
