@@ -1,24 +1,22 @@
 -- The call: one law for each way that it ends. Assumes nothing.
-use mathlib.Core.Path.{_≡_, refl, sym, ap, _∙_, subst}
-use mathlib.Core.Bool.{Bool, true, false, _&&_, cond}
+use mathlib.Core.Path.{_≡_, refl, ap}
+use mathlib.Core.Bool.{Bool, true, false, _&&_}
 use mathlib.Core.List.{List}
-use Prim.Native.Nat.{ℕ, _+_, _*_, _/_, _≤_, _<_}
+use Prim.Native.Nat.{ℕ, _*_, _/_, _≤_, _<_}
 use native.Mathlib.Nat.{div-mul-le-self, mul-comm}
 use native.Mathlib.Omega.{arith}
 use borrow.Author.Tests.{le-leb, lt-leb, eqb-true}
-use lib.Dec.{leb, eqb}
+use lib.Dec.{eqb}
 use lib.ListN.{length, replicate}
 use Rattle.program.specs.Check.{Program, Checked, good, bad, checked}
-use Rattle.program.specs.Answer.{CheckAnswer, accepted, refused, answerOf, checkAnswer}
-use Rattle.program.specs.GoodLaws.{Good, good-program}
+use Rattle.program.specs.Answer.{accepted, refused, answerOf, checkAnswer}
+use Rattle.program.specs.GoodLaws.{good-program}
 use Rattle.refusals.specs.Numbers.{badProgram, badCounts, tooLittleLent}
-use Rattle.rules.specs.Books.{Books}
-use Rattle.rules.specs.Single.{Single, going, ended, stopped, after}
-use Rattle.rules.specs.Lent.{Lent, Left, unchanged, roomOf, inputsOf, countsFit, areaSize, enoughLent, leftBy}
-use Rattle.rules.specs.Calls.{SingleAnswer, singleLeft, settingOf, singleOf, singleCall}
+use Rattle.rules.specs.Single.{Single}
+use Rattle.rules.specs.Lent.{Lent, unchanged, roomOf, countsFit, enoughLent, leftBy}
+use Rattle.rules.specs.Calls.{singleLeft, singleOf, singleCall}
 use Rattle.rules.specs.Calls as Calls
-use Rattle.single.specs.Ledger.{Holds}
-use Rattle.single.specs.Runs.{told, Finishes, Drives, Is}
+use Rattle.single.specs.Runs.{Finishes, Drives, Is}
 use Rattle.single.specs.declared.runs.Answer.{Answer}
 use Rattle.single.specs.declared.runs.Answer.the-variants.{Refused, Stopped, Ended, Budget}
 

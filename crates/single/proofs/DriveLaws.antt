@@ -1,59 +1,27 @@
 -- The start of a run: nothing used, the inputs divided, the area prepared. Assumes nothing.
-use mathlib.Core.Path.{_≡_, refl, sym, ap, _∙_, subst}
+use mathlib.Core.Path.{_≡_, refl, sym, _∙_, subst}
 use mathlib.Core.List.{List, []}
-use Prim.Native.Nat.{ℕ, zero, suc, _+_, _-_, _*_, _≤_, _<_}
-use native.Mathlib.Numerals.{add-one}
-use native.Mathlib.Omega.{arith}
+use Prim.Native.Nat.{ℕ, zero, suc, _-_, _*_, _≤_}
 use lib.IntN.{ℤ}
-use lib.ListN.{length, getD, set, replicate}
+use lib.ListN.{length, getD, replicate}
 use Rattle.parties.specs.Limits.{maxParties}
 use Rattle.parties.specs.Sets.{all}
 use Rattle.parties.specs.declared.sets.PartySet.{PartySet}
-use Rattle.program.specs.Check.{Program, good, checked}
-use Rattle.records.specs.Events.{written, heldBack}
-use Rattle.rules.specs.Books.{Books, opening, used}
+use Rattle.program.specs.Check.{Program}
+use Rattle.rules.specs.Books.{opening, used}
 use Rattle.rules.specs.Moves.{Control, start}
 use Rattle.rules.specs.Names.{noneBound}
-use Rattle.rules.specs.Single.{Single, going, run, after}
-use Rattle.rules.specs.Lent.{Lent, inputsOf, recordsLeft, lengthsLeft}
-use Rattle.area.specs.Levels.{controlOf}
+use Rattle.rules.specs.Single.{going, run, after}
+use Rattle.rules.specs.Lent.{inputsOf}
 use Rattle.area.specs.Table.{Prepared}
-use Rattle.area.specs.declared.stand.Stand.{Stand}
 use Rattle.area.proofs.LevelLaws.{fresh}
-use Rattle.single.specs.Ledger.{Holds, Fits}
-use Rattle.single.specs.Inputs.{Divided, InputsHold}
-use Rattle.single.specs.Steps.{Lists, Given, Stands}
-use Rattle.single.specs.Runs.{Finishes, noneUsed, RunsOn, Drives}
+use Rattle.ledger.specs.Ledger.{noneUsed}
+use Rattle.ledger.proofs.OpeningLaws.{opening-lengths, opening-records, opening-fits}
+use Rattle.ledger.specs.Inputs.{Divided, InputsHold}
+use Rattle.single.specs.Steps.{Given, Stands}
+use Rattle.single.specs.Runs.{Finishes, RunsOn, Drives}
 use Rattle.single.specs.declared.runs.Answer.{Answer}
-use Rattle.single.proofs.InputLaws.{inputs-start}
-
--- ---- lengths of 0
-pub none-zero : (ls : List ℕ) → ls ≡ noneUsed 0 ls
-unfolding noneUsed
-none-zero ls = refl
-
-pub none-more : (p : ℕ) (ls₀ ls : List ℕ) → ls ≡ noneUsed p ls₀ → set ls p 0 ≡ noneUsed (p + 1) ls₀
-unfolding noneUsed
-none-more p ls₀ ls e = rw (e, add-one p)
-
-pub none-all : (p n : ℕ) (ls₀ ls : List ℕ) → p ≤ n → n ≤ p → ls ≡ noneUsed p ls₀ → ls ≡ noneUsed n ls₀
-none-all p n ls₀ ls h l e = let q : p ≡ n = omega arith in e ∙ ap (λ (k : ℕ). noneUsed k ls₀) q
-
--- ---- the books at the start, in the lent bytes
-module _ (inputs : ℕ → List ℤ) where
-  opening-lengths : (n : ℕ) (ls : List ℕ) → noneUsed n ls ≡ lengthsLeft n (opening inputs) ls
-  unfolding noneUsed lengthsLeft used written
-  opening-lengths zero ls = refl
-  opening-lengths (suc n) ls = ap (λ (x : List ℕ). set x n 0) (opening-lengths n ls)
-
-  opening-records : (n R : ℕ) (xs : List ℕ) → xs ≡ recordsLeft n R (opening inputs) xs
-  unfolding recordsLeft written
-  opening-records zero R xs = refl
-  opening-records (suc n) R xs = opening-records n R xs
-
-  opening-fits : (R n : ℕ) → heldBack ≤ R → Fits R n (opening inputs)
-  unfolding used written
-  opening-fits R n h P l = omega arith
+use Rattle.ledger.proofs.InputLaws.{inputs-start}
 
 zeros : (k P : ℕ) → getD {A = ℕ} (replicate k 0) P 0 ≡ 0
 zeros zero P = refl

@@ -1,11 +1,4 @@
-pub mod PartLaws
-pub mod RowLaws
-pub mod RoomLaws
-pub mod WriteLaws
-pub mod LedgerLaws
-pub mod EndLaws
 pub mod StepLaws
-pub mod InputLaws
 pub mod ReadLaws
 pub mod PerformLaws
 pub mod RunLaws

@@ -2,12 +2,11 @@
 use mathlib.Core.Path.{_≡_, refl, sym, ap, _∙_, subst}
 use mathlib.Core.Bool.{Bool, true, false, not, _||_, _&&_, cond}
 use mathlib.Core.List.{List}
-use mathlib.Core.Option.{Option, none, some}
-use Prim.Native.Nat.{ℕ, zero, suc, _+_, _<_}
+use mathlib.Core.Option.{none, some}
+use Prim.Native.Nat.{ℕ, zero, suc}
 use lib.IntN.{ℤ, pos}
-use lib.ListN.{drop}
 use Rattle.parties.specs.Limits.{maxParties}
-use Rattle.parties.specs.Sets.{member, lowest}
+use Rattle.parties.specs.Sets.{member}
 use Rattle.parties.specs.declared.sets.PartySet.{PartySet}
 use Rattle.values.specs.declared.value.Value.the-variants.{Clear}
 use Rattle.program.specs.Check.{Program, nodeAt}
@@ -21,7 +20,7 @@ use Rattle.rules.specs.Moves.{move}
 use Rattle.rules.specs.Rules.{rule}
 use Rattle.rules.specs.declared.effects.View.the-variants.{Whole}
 use Rattle.rules.specs.declared.effects.Effect.{Effect}
-use Rattle.rules.specs.Single.{Setting, Single, stopped, allOf, noteAll, arrive, settleAll, readAll, perform, step}
+use Rattle.rules.specs.Single.{stopped, allOf, noteAll, arrive, settleAll, perform, step}
 use Rattle.rules.specs.declared.effects.Move.{Move}
 use Rattle.rules.specs.declared.effects.Move.the-variants.{Hand}
 use Rattle.rules.specs.declared.effects.Meeting.{Meeting}
@@ -32,13 +31,12 @@ use Rattle.area.specs.Levels.{controlOf, namesAt}
 use Rattle.area.specs.Table.{PlacesIn, nodeBy}
 use Rattle.area.proofs.TableLaws.{node-by}
 use Rattle.area.specs.declared.stand.Stand.{Stand}
-use Rattle.single.specs.Ledger.{Holds, Fits}
-use Rattle.single.specs.Inputs.{InputsHold}
+use Rattle.ledger.specs.Inputs.{InputsHold}
 use Rattle.single.specs.Steps.{Lists, Given, Stands, Comes, Moved, Settles, ReadsIn, Performs, StepsOn}
 use Rattle.single.specs.declared.steps.Stepped.{Stepped}
 use Rattle.single.specs.declared.steps.Stepped.the-variants.{Stopped}
-use Rattle.single.proofs.RowLaws.{Same, holds-same}
-use Rattle.single.proofs.InputLaws.{inputs-same}
+use Rattle.ledger.proofs.RowLaws.{holds-same}
+use Rattle.ledger.proofs.InputLaws.{inputs-same}
 
 -- ---- an effect that notes nothing
 

@@ -1,34 +1,31 @@
 -- READ in the lent bytes: the one party of the mode takes its next input. Assumes nothing.
 use mathlib.Core.Path.{_≡_, refl, sym, ap, _∙_, subst}
-use mathlib.Core.Bool.{Bool, true, false, cond, false≢true}
+use mathlib.Core.Bool.{Bool, true, false, cond}
 use mathlib.Core.List.{List, [], _∷_}
 use mathlib.Core.Option.{some}
 use Prim.Native.Nat.{ℕ, zero, suc, _+_, _-_, _≤_, _<_}
 use native.Mathlib.Decide.{decLt}
 use native.Mathlib.Omega.{arith}
-use borrow.Author.Tests.{ne-eqb, eqb-false}
-use lib.Dec.{eqb}
 use lib.IntN.{ℤ}
 use lib.ListN.{length, getD, set, take, drop, drop-of-length-le}
 use Rattle.parties.specs.Limits.{maxParties}
-use Rattle.parties.specs.Sets.{bit, member, countFrom, count, lowestFrom, lowest}
+use Rattle.parties.specs.Sets.{member, count, lowest}
 use Rattle.parties.specs.SetLaws.{sole-member, lowest-one}
 use Rattle.parties.specs.declared.sets.PartySet.{PartySet}
 use Rattle.values.specs.declared.value.Value.the-variants.{Clear}
-use Rattle.program.specs.Check.{Program}
 use Rattle.records.specs.declared.events.Event.the-variants.{Read}
 use Rattle.refusals.specs.Numbers.{noInput}
 use Rattle.rules.specs.Books.{Books, eventFor, add, note}
-use Rattle.rules.specs.Single.{Single, noteAll, settleAll, readAll}
+use Rattle.rules.specs.Single.{noteAll, readAll}
 use Rattle.rules.specs.declared.effects.Move.the-variants.{Hand}
 use Rattle.area.specs.Levels.{controlOf}
 use Rattle.area.specs.declared.stand.Stand.{Stand}
-use Rattle.single.specs.Inputs.{InputsHold, headOf}
+use Rattle.ledger.specs.Inputs.{InputsHold, headOf}
 use Rattle.single.specs.Steps.{Lists, Given, Stands, Comes, Settles, ReadsIn}
-use Rattle.single.specs.declared.inputs.Taken.the-variants.{Input, UsedUp}
+use Rattle.ledger.specs.declared.inputs.Taken.the-variants.{Input, UsedUp}
 use Rattle.single.specs.declared.steps.Stepped.{Stepped}
 use Rattle.single.specs.declared.steps.Stepped.the-variants.{Stopped}
-use Rattle.single.proofs.InputLaws.{inputs-taken, head-none, head-some}
+use Rattle.ledger.proofs.InputLaws.{inputs-taken, head-none, head-some}
 
 -- ---- what the books have once the one party has noted that it read i
 

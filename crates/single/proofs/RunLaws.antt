@@ -15,9 +15,8 @@ use Rattle.area.specs.Levels.{tableSize, controlOf}
 use Rattle.area.specs.Table.{PlacesIn}
 use Rattle.area.specs.declared.stand.Stand.{Stand}
 use Rattle.area.proofs.TableLaws.{places-kept}
-use Rattle.single.specs.Ledger.{Holds}
 use Rattle.single.specs.Steps.{Lists, Given, Stands, Comes, DeepAfter, StepsOn}
-use Rattle.single.specs.Runs.{Finishes, RunsOn}
+use Rattle.single.specs.Runs.{RunsOn}
 use Rattle.single.specs.declared.steps.Stepped.{Stepped}
 use Rattle.single.specs.declared.steps.Stepped.the-variants.{On, Ended, Stopped}
 use Rattle.single.specs.declared.runs.Answer.the-variants as Answer′

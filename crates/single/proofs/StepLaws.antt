@@ -1,12 +1,11 @@
 -- A step in the lent bytes, from what its parts say: arriving, moving, settling. Assumes nothing.
 use mathlib.Core.Path.{_≡_, refl, sym, ap, _∙_, subst}
-use mathlib.Core.Bool.{Bool, true, false, not, _||_, _&&_, cond}
+use mathlib.Core.Bool.{Bool, true, false, cond}
 use mathlib.Core.List.{List}
-use mathlib.Core.Option.{Option, none, some}
-use Prim.Native.Nat.{ℕ, zero, suc, _+_, _*_, _≤_, _<_}
+use mathlib.Core.Option.{some}
+use Prim.Native.Nat.{ℕ, zero, suc, _≤_, _<_}
 use native.Mathlib.Omega.{arith}
-use lib.ListN.{length, getD, take}
-use Rattle.parties.specs.Limits.{maxParties}
+use lib.ListN.{length, getD}
 use Rattle.parties.specs.Sets.{member}
 use Rattle.parties.specs.declared.sets.PartySet.{PartySet}
 use Rattle.values.specs.Values.{slice}
@@ -18,19 +17,18 @@ use Rattle.refusals.specs.Numbers.{noRoom, tooDeep}
 use Rattle.rules.specs.Books.{Books, used, eventFor, roomFor, add}
 use Rattle.rules.specs.Moves.{move}
 use Rattle.rules.specs.Moves as Moves
-use Rattle.rules.specs.Single.{Setting, Single, stopped, allOf, noteAll, arrive, settleAll}
+use Rattle.rules.specs.Single.{Single, stopped, allOf, noteAll, arrive, settleAll}
 use Rattle.rules.specs.declared.effects.Move.{Move}
-use Rattle.area.specs.Levels.{tableSize, controlOf, nextOf, DeepEnough, Goes}
+use Rattle.area.specs.Levels.{controlOf, nextOf, Goes}
 use Rattle.area.specs.Levels as Levels
 use Rattle.area.specs.declared.stand.Stand.{Stand}
 use Rattle.area.specs.declared.stand.Next.{Next}
 use Rattle.area.specs.declared.stand.Next.the-variants as Next′
-use Rattle.single.specs.Ledger.{Holds, Fits, roomsFor, NotesAll, FinishesAll}
-use Rattle.single.specs.Inputs.{InputsHold}
-use Rattle.single.specs.Steps.{Lists, Given, Stands, Comes, Arrives, Moved, Settles}
+use Rattle.ledger.specs.Ledger.{Holds, roomsFor, NotesAll, FinishesAll}
+use Rattle.single.specs.Steps.{Comes, Arrives, Moved, Settles}
 use Rattle.single.specs.declared.steps.Stepped.{Stepped}
 use Rattle.single.specs.declared.steps.Stepped.the-variants.{On, Ended, Stopped}
-use Rattle.single.proofs.RowLaws.{holds-length}
+use Rattle.ledger.proofs.RowLaws.{holds-length}
 
 -- ---- arriving
 

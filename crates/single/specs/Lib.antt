@@ -1,5 +1,2 @@
-pub mod Ledger
-pub mod Writes
-pub mod Inputs
 pub mod Steps
 pub mod Runs

@@ -1,9 +1,9 @@
 -- The single run in the lent bytes, and what its answers say.
 use mathlib.Core.Path.{_≡_}
-use Prim.Native.Nat.{ℕ, zero, suc, _*_, _≤_}
+use Prim.Native.Nat.{ℕ, _≤_}
 use mathlib.Core.List.{List}
 use lib.IntN.{ℤ}
-use lib.ListN.{length, set}
+use lib.ListN.{length}
 use Rattle.values.specs.declared.value.Value.{Value}
 use Rattle.program.specs.Check.{Program, good, checked}
 use Rattle.records.specs.Events.{heldBack}
@@ -15,7 +15,7 @@ use Rattle.rules.specs.Calls.{SingleAnswer, refused, stoppedAt, endedAfter, bud
 use Rattle.area.specs.Levels.{controlOf}
 use Rattle.area.specs.Table.{PlacesIn}
 use Rattle.area.specs.declared.stand.Stand.{Stand}
-use Rattle.single.specs.Ledger.{Holds}
+use Rattle.ledger.specs.Ledger.{Holds}
 use Rattle.single.specs.Steps.{Lists, Given, Stands}
 use Rattle.single.specs.declared.runs.Answer.{Answer}
 use Rattle.single.specs.declared.runs.Answer.the-variants as Answer′
@@ -33,11 +33,6 @@ Finishes (Answer′.Refused number place) R n xs₀ ls₀ s xs ls = ⊥
 Finishes (Answer′.Stopped r e k) R n xs₀ ls₀ s xs ls = (b : Books) × (s ≡ stopped k r e b) × Holds R n b xs₀ ls₀ xs ls
 Finishes (Answer′.Ended k) R n xs₀ ls₀ s xs ls = (v : Value) × (b : Books) × (s ≡ ended k v b) × Holds R n b xs₀ ls₀ xs ls
 Finishes (Answer′.Budget k) R n xs₀ ls₀ s xs ls = (c : Control) × (b : Books) × (s ≡ going k c b) × Holds R n b xs₀ ls₀ xs ls
-
--- the first n lengths are 0
-unfoldable pub noneUsed : ℕ → List ℕ → List ℕ
-noneUsed zero ls = ls
-noneUsed (suc P) ls = set (noneUsed P ls) P 0
 
 -- at most `budget` steps, from a stand
 pub record RunsOn (bs : List ℕ) (nodes room n : ℕ) (is : List ℤ) (end : List ℕ) (budget : ℕ) (t : Stand) (a : Answer) (l : Lists) (bytes′ lengths′ : List ℕ) : Type 0 where

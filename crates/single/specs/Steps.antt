@@ -6,23 +6,21 @@ use mathlib.Core.Option.{some}
 use lib.IntN.{ℤ}
 use lib.ListN.{length, take}
 use Rattle.parties.specs.Limits.{maxParties, maxFrames}
-use Rattle.parties.specs.Sets.{count, lowest}
-use Rattle.parties.specs.declared.sets.PartySet.{PartySet}
+use Rattle.parties.specs.Sets.{lowest}
 use Rattle.values.specs.declared.value.Value.{Value}
 use Rattle.program.specs.Check.{Program, good, checked}
 use Rattle.records.specs.declared.events.Event.{Event}
 use Rattle.rules.specs.Books.{Books}
 use Rattle.rules.specs.Moves.{move}
-use Rattle.rules.specs.Single.{Setting, Single, going, ended, stopped, noteAll, arrive, settleAll, readAll, perform, step}
+use Rattle.rules.specs.Single.{Single, going, ended, stopped, noteAll, arrive, settleAll, readAll, perform, step}
 use Rattle.rules.specs.declared.effects.Move.{Move}
 use Rattle.rules.specs.declared.effects.Effect.{Effect}
-use Rattle.rules.specs.declared.effects.Effect.the-variants.{Refuse, Goes, Reads, Writes, Meets}
 use Rattle.area.specs.Levels.{tableSize, controlOf, nextOf, DeepEnough}
 use Rattle.area.specs.Table.{PlacesIn}
 use Rattle.area.specs.declared.stand.Stand.{Stand}
 use Rattle.area.specs.declared.stand.Next.{Next}
-use Rattle.single.specs.Ledger.{Holds, Fits}
-use Rattle.single.specs.Inputs.{InputsHold}
+use Rattle.ledger.specs.Ledger.{Holds, Fits}
+use Rattle.ledger.specs.Inputs.{InputsHold}
 use Rattle.single.specs.declared.steps.Stepped.{Stepped}
 use Rattle.single.specs.declared.steps.Stepped.the-variants.{On, Ended, Stopped}
 

@@ -6,10 +6,10 @@ ghost use Rattle.parties.specs.Limits.{maxParties, maxFrames};
 ghost use Rattle.program.specs.Answer.{accepted, checkAnswer};
 ghost use Rattle.rules.specs.Lent.{areaSize, sum};
 ghost use Rattle.rules.specs.Calls.{singleCall};
-ghost use Rattle.single.specs.Runs.{noneUsed, RunsOn, Drives, Is};
-use crate::inputs::counts_fit;
+ghost use Rattle.single.specs.Runs.{RunsOn, Drives, Is};
 use crate::steps::Stepped;
 use area::stand::Stand;
+use ledger::inputs::counts_fit;
 use parties::limits::Depth;
 use parties::sets::PartySet;
 use program::check::Verdict;
@@ -23,18 +23,6 @@ pub enum Answer {
     // the steps
     Ended(u32),
     Budget(u32),
-}
-
-// No party has used anything of its record.
-fn clear_lengths(n: u8, lengths: &mut [usize])
-    requires { ⌜ n ≤ length (now lengths) ⌝ }
-    ensures { λ _. ⌜ now (lengths .exit) ≡ noneUsed n (now (lengths .entry)) ⌝ }
-{
-    let mut p: u8 = 0;
-    while p < n {
-        lengths[p as usize] = 0;
-        p += 1;
-    }
 }
 
 // At most `budget` steps, from the stand `start`.
@@ -105,8 +93,8 @@ fn drive(
 {
     let mut at = [0usize; 16];
     let mut end = [0usize; 16];
-    crate::inputs::divide(counts, inputs, &mut at, &mut end);
-    clear_lengths(n, lengths);
+    ledger::inputs::divide(counts, inputs, &mut at, &mut end);
+    ledger::entries::clear_lengths(n, lengths);
     let many = nodes as usize;
     area::table::prepare(program, many, work);
     let start = Stand {

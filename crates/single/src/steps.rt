@@ -8,9 +8,9 @@ ghost use Rattle.rules.specs.Books.{handed, eventOf};
 ghost use Rattle.rules.specs.Lent.{areaSize};
 ghost use Rattle.single.specs.Steps.{Arrives, Moved, Settles, ReadsIn, Performs, StepsOn};
 ghost use Rattle.rules.specs.RunLaws.{Sound};
-use crate::inputs::Taken;
 use area::stand::Next;
 use area::stand::Stand;
+use ledger::inputs::Taken;
 use records::events::Event;
 use rules::effects::Effect;
 use rules::effects::Meeting;
@@ -34,7 +34,7 @@ fn arrive(next: Next, n: u8, room: usize, bytes: &mut [u8], lengths: &mut [usize
     match next {
         Next::On(t) => Stepped::On(t),
         Next::Ends(v) => {
-            crate::ledger::finish_all(v, n, room, bytes, lengths);
+            ledger::entries::finish_all(v, n, room, bytes, lengths);
             Stepped::Ended
         }
         Next::Full => Stepped::Stopped(refusals::TOO_DEEP),
@@ -72,8 +72,8 @@ fn settled(
     ensures { λ y. ⌜ Settles room n ev mv t y (now (bytes .entry)) (now (lengths .entry)) (now (work .entry)) (now (bytes .exit)) (now (lengths .exit)) (now (work .exit)) ⌝ }
 {
     let m = t.mode;
-    if crate::ledger::room_for_all(ev, m, n, room, lengths) {
-        crate::ledger::note_all(ev, m, n, room, bytes, lengths);
+    if ledger::entries::room_for_all(ev, m, n, room, lengths) {
+        ledger::entries::note_all(ev, m, n, room, bytes, lengths);
         return moved(mv, t, n, room, bytes, lengths, work);
     }
     Stepped::Stopped(refusals::NO_ROOM)
@@ -96,7 +96,7 @@ fn read(
 {
     let m = t.mode;
     let p = m.lowest() as usize;
-    let Taken::Input(i) = crate::inputs::next_input(p, inputs, at, end) else {
+    let Taken::Input(i) = ledger::inputs::next_input(p, inputs, at, end) else {
         return Stepped::Stopped(refusals::NO_INPUT);
     };
     at[p] = at[p] + 1;

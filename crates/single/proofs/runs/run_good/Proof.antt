@@ -7,7 +7,7 @@ use lib.IntN.{ℤ}
 use lib.ListN.{replicate}
 use borrow.Author.Needs.{needs}
 use Rattle.rules.specs.Lent.{Lent, roomOf}
-use Rattle.single.proofs.InputLaws.{counts-fit-is}
+use Rattle.ledger.proofs.InputLaws.{counts-fit-is}
 use Rattle.single.proofs.CallLaws.{bounds, call-counts, call-short, call-runs, short-room, short-places, short-work, enough, fit-parts, rooms-within}
 use Rattle.single.proofs.runs.run_good.Statement.{statement}
 use Rattle.single.proofs.runs.run_good.Tie as tie

@@ -7,7 +7,7 @@ use borrow.Author.Needs.{needs}
 use Rattle.parties.specs.Sets.{lowest}
 use Rattle.parties.specs.SetLaws.{lowest-one}
 use Rattle.numbers.proofs.IntegerLaws.{read32}
-use Rattle.single.specs.Inputs.{headOf}
+use Rattle.ledger.specs.Inputs.{headOf}
 use Rattle.single.proofs.ReadLaws.{read-none, read-some, place-small}
 use Rattle.single.proofs.steps.read.Statement.{statement}
 use Rattle.single.proofs.steps.read.Tie as tie

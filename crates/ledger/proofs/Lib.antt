@@ -1,0 +1,8 @@
+pub mod PartLaws
+pub mod RowLaws
+pub mod RoomLaws
+pub mod WriteLaws
+pub mod LedgerLaws
+pub mod EndLaws
+pub mod InputLaws
+pub mod OpeningLaws

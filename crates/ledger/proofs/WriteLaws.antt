@@ -1,0 +1,106 @@
+-- One party's write in its part of the lent bytes, and what the parties write. Assumes nothing.
+use mathlib.Core.Path.{_≡_, refl, sym, ap, _∙_}
+use mathlib.Core.Bool.{true, false, _&&_}
+use mathlib.Core.List.{List, [], _∷_, _++_, append-nil}
+use Prim.Native.Nat.{ℕ, _+_, _-_, _*_, _≤_, _<_}
+use native.Mathlib.Nat.{add-zero}
+use native.Mathlib.Omega.{arith}
+use lib.ListN.{length, getD, take, drop, set, length-drop}
+use lib.Seq.{sets, set-getD, length-take-le}
+use borrow.Author.Tests.{le-leb, lt-leb}
+use Rattle.parties.specs.Sets.{member}
+use Rattle.parties.specs.declared.sets.PartySet.{PartySet}
+use Rattle.values.specs.Values.{slice}
+use Rattle.values.specs.declared.value.Value.{Value}
+use Rattle.records.specs.Events.{eventBytes, written, finished, hasRoom, heldBack}
+use Rattle.records.specs.EventLaws.{finished-length}
+use Rattle.records.specs.Append.{Appends}
+use Rattle.records.specs.AppendLaws.{Took, Kept, took, kept}
+use Rattle.records.specs.declared.events.Event.{Event}
+use Rattle.records.specs.declared.events.Appended.{Appended}
+use Rattle.records.specs.declared.events.Appended.the-variants.{To, NoRoom}
+use Rattle.rules.specs.Books.{eventFor}
+use Rattle.ledger.specs.Writes.{Writes, noting, finishing}
+use Rattle.ledger.proofs.PartLaws.{part-wrote}
+
+-- ---- what is written
+pub written-one : (e : Event) → written (e ∷ []) ≡ eventBytes e
+unfolding written
+written-one e = append-nil (eventBytes e)
+
+module _ (R : ℕ) (m : PartySet) (e : Event) (P u : ℕ) where
+  pub noting-none : member P m && hasRoom R u (eventFor P e) ≡ false → written (noting R m e P u) ≡ []
+  unfolding noting written
+  noting-none h = rw h
+
+  pub noting-one : member P m && hasRoom R u (eventFor P e) ≡ true → written (noting R m e P u) ≡ eventBytes (eventFor P e)
+  unfolding noting
+  noting-one h = rw h (written-one (eventFor P e))
+
+module _ (R : ℕ) (v : Value) (P u : ℕ) where
+  pub finishing-none : R < u + heldBack → written (finishing R v P u) ≡ []
+  unfolding finishing written
+  finishing-none h = rw (lt-leb (u + heldBack) R h)
+
+  pub finishing-one : u + heldBack ≤ R → written (finishing R v P u) ≡ eventBytes (finished (slice P v))
+  unfolding finishing
+  finishing-one h = rw (le-leb (u + heldBack) R h) (written-one (finished (slice P v)))
+
+-- ---- the write
+-- party P wrote nothing
+pub untouched : (R P : ℕ) (vs xs ls : List ℕ) → vs ≡ [] → Writes R P vs xs ls xs ls
+untouched R P vs xs ls e = rw e (record { bytes = refl; lengths = rw add-zero (sym (set-getD ls P 0)) })
+
+-- party P's part of the bytes, from its start to its end, as it is lent; and the bytes with ys in its place
+abbrev span : (R P : ℕ) → ℕ
+span R P = P * R + R - P * R
+
+abbrev area : (R P : ℕ) → List ℕ → List ℕ
+area R P xs = take (span R P) (drop (P * R) xs)
+
+abbrev back : (R P : ℕ) → (xs ys : List ℕ) → List ℕ
+back R P xs ys = take (P * R) xs ++ (ys ++ drop (span R P) (drop (P * R) xs))
+
+pub area-length : (R P : ℕ) (xs : List ℕ) → P * R + R ≤ length xs → length (area R P xs) ≡ R
+area-length R P xs h =
+    let q : span R P ≡ R = omega arith in
+    length-take-le (span R P) (drop (P * R) xs) (rw length-drop (omega arith)) ∙ q
+
+module _ (R P : ℕ) (xs ls ys : List ℕ) (h : P * R + R ≤ length xs) where
+  -- its part came back with vs after what was used
+  pub wrote : (vs ws : List ℕ) (n : ℕ) → vs ≡ ws → ys ≡ sets (area R P xs) (getD ls P 0) ws → getD ls P 0 + length ws ≤ R → n ≡ getD ls P 0 + length ws
+      → Writes R P vs xs ls (back R P xs ys) (set ls P n)
+  wrote vs ws n e b l t =
+      rw e (record { bytes = ap (back R P xs) b ∙ part-wrote (P * R) (span R P) (getD ls P 0) xs ws (omega arith) (omega arith); lengths = ap (set ls P) t })
+
+  -- its part came back as it was
+  pub unwritten : (vs : List ℕ) → vs ≡ [] → ys ≡ area R P xs → Writes R P vs xs ls (back R P xs ys) ls
+  unwritten vs e b =
+      rw e
+      (record {
+        bytes = ap (back R P xs) b ∙ part-wrote (P * R) (span R P) 0 xs [] (omega arith) (omega arith);
+        lengths = rw add-zero (sym (set-getD ls P 0));
+      })
+
+  -- a member's event, by what its room test answered
+  module _ (m : PartySet) (e E : Event) (r : Appended) (f : E ≡ eventFor P e) (i : member P m ≡ true) (a : Appends E (getD ls P 0) (area R P xs) r ys) where
+    pub noted : (n : ℕ) → r ≡ To n → Writes R P (written (noting R m e P (getD ls P 0))) xs ls (back R P xs ys) (set ls P n)
+    noted n t =
+        let w : Took E (getD ls P 0) (area R P xs) n ys = took E (getD ls P 0) (area R P xs) ys n (rw t at a) in
+        let o : hasRoom R (getD ls P 0) (eventFor P e) ≡ true = rw (area-length R P xs h, f) at (w .had) in
+        let b : eventBytes (eventFor P e) ≡ eventBytes E = rw f in
+        wrote (written (noting R m e P (getD ls P 0))) (eventBytes E) n (noting-one R m e P (getD ls P 0) (rw (i, o)) ∙ b) (w .bytes) (omega (arith, w .left, w .to, area-length R P xs h)) (w .to)
+
+    pub not-noted : r ≡ NoRoom → Writes R P (written (noting R m e P (getD ls P 0))) xs ls (back R P xs ys) ls
+    not-noted t =
+        let w : Kept E (getD ls P 0) (area R P xs) ys = kept E (getD ls P 0) (area R P xs) ys (rw t at a) in
+        let o : hasRoom R (getD ls P 0) (eventFor P e) ≡ false = rw (area-length R P xs h, f) at (w .had) in
+        unwritten (written (noting R m e P (getD ls P 0))) (noting-none R m e P (getD ls P 0) (rw (i, o))) (w .bytes)
+
+  -- the last event
+  pub ended : (v : Value) (E : Event) (n : ℕ) → E ≡ finished (slice P v) → getD ls P 0 + heldBack ≤ R → ys ≡ sets (area R P xs) (getD ls P 0) (eventBytes E)
+      → n ≡ getD ls P 0 + heldBack → Writes R P (written (finishing R v P (getD ls P 0))) xs ls (back R P xs ys) (set ls P n)
+  ended v E n f l b t =
+      let w : written (finishing R v P (getD ls P 0)) ≡ eventBytes E = finishing-one R v P (getD ls P 0) l ∙ rw f in
+      let z : length (eventBytes E) ≡ heldBack = rw f (finished-length (slice P v)) in
+      wrote (written (finishing R v P (getD ls P 0))) (eventBytes E) n w b (omega arith) (omega arith)
