@@ -3,3 +3,4 @@ pub mod LevelLaws
 pub mod MoveLaws
 pub mod LookupLaws
 pub mod TableLaws
+pub mod SeatLaws

@@ -98,7 +98,7 @@ no-deeper x e1 e2 t w m =
     ]
 
 -- a number in a run of stores
-number-stored : (k : ℕ) (vs w : List ℕ) (p o : ℕ) → o + k ≤ length vs → p + length vs ≤ length w → numberAt k (sets w p vs) (p + o) ≡ numberAt k vs o
+pub number-stored : (k : ℕ) (vs w : List ℕ) (p o : ℕ) → o + k ≤ length vs → p + length vs ≤ length w → numberAt k (sets w p vs) (p + o) ≡ numberAt k vs o
 number-stored k vs w p o h f = number-same k (sets w p vs) (p + o) vs o (λ l j. simp add-assoc (sets-at vs w p (o + l) (omega arith) f))
 
 -- what is written behind the cells

@@ -2,3 +2,4 @@ pub mod Levels
 pub mod Binding
 pub mod Lookup
 pub mod Table
+pub mod Seats

@@ -29,7 +29,7 @@ pub added : (e : Event) (b : Book) → written (add e b .events) ≡ written (b 
 unfolding add
 added e b = written-append (b .events) (e ∷ []) ∙ ap (λ (l : List ℕ). written (b .events) ++ l) (written-one e)
 
-used-added : (e : Event) (b : Book) → used (add e b) ≡ used b + length (eventBytes e)
+pub used-added : (e : Event) (b : Book) → used (add e b) ≡ used b + length (eventBytes e)
 unfolding used
 used-added e b = ap length (added e b) ∙ length-append (written (b .events)) (eventBytes e)
 

@@ -2,16 +2,15 @@
 use mathlib.Core.Path.{_≡_, refl, sym, _∙_}
 use mathlib.Core.Bool.{Bool, true, false, not, _||_, and-false}
 use mathlib.Core.List.{List}
-use Prim.Native.Nat.{ℕ, zero, suc, _+_, _-_, _≤_, _<_}
+use Prim.Native.Nat.{ℕ, zero, suc, _+_, _<_}
 use native.Mathlib.Decide.{decLt}
 use native.Mathlib.Numerals.{add-one}
 use native.Mathlib.Omega.{arith}
-use lib.Dec.{leb}
-use lib.ListN.{length, getD}
-use borrow.Author.Tests.{leb-true, leb-false, le-leb, lt-leb, not-true, not-false}
+use lib.ListN.{getD}
+use borrow.Author.Tests.{not-true, not-false}
 use Rattle.parties.specs.Sets.{member}
 use Rattle.parties.specs.declared.sets.PartySet.{PartySet}
-use Rattle.records.specs.Events.{eventBytes, hasRoom, heldBack}
+use Rattle.records.specs.Events.{hasRoom}
 use Rattle.records.specs.declared.events.Event.{Event}
 use Rattle.rules.specs.Books.{eventFor}
 use Rattle.rules.specs.Single.{allOf}
@@ -27,23 +26,6 @@ module _ (R : ℕ) (m : PartySet) (e : Event) (P u : ℕ) where
   pub may-in : member P m ≡ true → hasRoom R u (eventFor P e) ≡ mayNote R m e P u
   unfolding mayNote
   may-in h = rw h
-
--- no room: all is used, or more
-pub full : (R u : ℕ) (e : Event) → R < u → false ≡ hasRoom R u e
-unfolding hasRoom
-full R u e h = sym (lt-leb (u + length (eventBytes e) + heldBack) R (omega arith))
-
--- the test against what is left
-pub left-over : (R u : ℕ) (e : Event) → u ≤ R → leb (length (eventBytes e) + heldBack) (R - u) ≡ hasRoom R u e
-unfolding hasRoom
-left-over R u e h = go (leb (L + heldBack) (R - u)) refl
-  where
-    L : ℕ
-    L = length (eventBytes e)
-
-    go : (t : Bool) → leb (L + heldBack) (R - u) ≡ t → t ≡ leb (u + L + heldBack) R
-    go true q = sym (le-leb (u + L + heldBack) R (omega (arith, leb-true (L + heldBack) (R - u) q)))
-    go false q = sym (lt-leb (u + L + heldBack) R (omega (arith, leb-false (L + heldBack) (R - u) q)))
 
 -- ---- all parties below n
 module _ (R : ℕ) (m : PartySet) (e : Event) (ls : List ℕ) where

@@ -1,20 +1,21 @@
 -- One party's write in its part of the lent bytes, and what the parties write. Assumes nothing.
 use mathlib.Core.Path.{_≡_, refl, sym, ap, _∙_}
-use mathlib.Core.Bool.{true, false, _&&_}
+use mathlib.Core.Bool.{Bool, true, false, _&&_, cond}
 use mathlib.Core.List.{List, [], _∷_, _++_, append-nil}
 use Prim.Native.Nat.{ℕ, _+_, _-_, _*_, _≤_, _<_}
 use native.Mathlib.Nat.{add-zero}
 use native.Mathlib.Omega.{arith}
+use lib.Dec.{leb}
 use lib.ListN.{length, getD, take, drop, set, length-drop}
 use lib.Seq.{sets, set-getD, length-take-le}
-use borrow.Author.Tests.{le-leb, lt-leb}
+use borrow.Author.Tests.{leb-true, leb-false, le-leb, lt-leb}
 use Rattle.parties.specs.Sets.{member}
 use Rattle.parties.specs.declared.sets.PartySet.{PartySet}
 use Rattle.values.specs.Values.{slice}
 use Rattle.values.specs.declared.value.Value.{Value}
 use Rattle.records.specs.Events.{eventBytes, written, finished, hasRoom, heldBack}
 use Rattle.records.specs.EventLaws.{finished-length}
-use Rattle.records.specs.Append.{Appends}
+use Rattle.records.specs.Append.{Appends, Closes}
 use Rattle.records.specs.AppendLaws.{Took, Kept, took, kept}
 use Rattle.records.specs.declared.events.Event.{Event}
 use Rattle.records.specs.declared.events.Appended.{Appended}
@@ -98,9 +99,20 @@ module _ (R P : ℕ) (xs ls ys : List ℕ) (h : P * R + R ≤ length xs) where
         unwritten (written (noting R m e P (getD ls P 0))) (noting-none R m e P (getD ls P 0) (rw (i, o))) (w .bytes)
 
   -- the last event
-  pub ended : (v : Value) (E : Event) (n : ℕ) → E ≡ finished (slice P v) → getD ls P 0 + heldBack ≤ R → ys ≡ sets (area R P xs) (getD ls P 0) (eventBytes E)
-      → n ≡ getD ls P 0 + heldBack → Writes R P (written (finishing R v P (getD ls P 0))) xs ls (back R P xs ys) (set ls P n)
-  ended v E n f l b t =
-      let w : written (finishing R v P (getD ls P 0)) ≡ eventBytes E = finishing-one R v P (getD ls P 0) l ∙ rw f in
-      let z : length (eventBytes E) ≡ heldBack = rw f (finished-length (slice P v)) in
-      wrote (written (finishing R v P (getD ls P 0))) (eventBytes E) n w b (omega arith) (omega arith)
+  pub ended : (v : Value) (E : Event) (n : ℕ) → E ≡ finished (slice P v) → Closes E (getD ls P 0) (area R P xs) n ys
+      → Writes R P (written (finishing R v P (getD ls P 0))) xs ls (back R P xs ys) (set ls P n)
+  ended v E n f k = go (leb (getD ls P 0 + heldBack) R) refl (rw (area-length R P xs h) at (k .answer)) (rw (area-length R P xs h) at (k .bytes))
+    where
+      u : ℕ
+      u = getD ls P 0
+
+      go : (t : Bool) → leb (u + heldBack) R ≡ t → n ≡ cond t (u + length (eventBytes E)) u → ys ≡ cond t (sets (area R P xs) u (eventBytes E)) (area R P xs)
+          → Writes R P (written (finishing R v P u)) xs ls (back R P xs ys) (set ls P n)
+      go true q a b =
+          let l : u + heldBack ≤ R = leb-true (u + heldBack) R q in
+          let w : written (finishing R v P u) ≡ eventBytes E = finishing-one R v P u l ∙ rw f in
+          let z : length (eventBytes E) ≡ heldBack = rw f (finished-length (slice P v)) in
+          wrote (written (finishing R v P u)) (eventBytes E) n w b (omega arith) a
+      go false q a b =
+          let w : written (finishing R v P u) ≡ [] = finishing-none R v P u (leb-false (u + heldBack) R q) in
+          rw (a, set-getD ls P 0) (unwritten (written (finishing R v P u)) w b)

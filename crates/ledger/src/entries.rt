@@ -27,14 +27,10 @@ pub fn event_for(p: Party, e: Event) -> Event
 fn may_note(e: Event, m: PartySet, p: Party, room: usize, used: usize) -> bool
     ensures { λ r. ⌜ r ≡ mayNote room m e (p .index) used ⌝ }
 {
-    if !m.has(p) {
-        return true;
+    if m.has(p) {
+        return event_for(p, e).has_room(room, used);
     }
-    let size = event_for(p, e).size();
-    if room < used {
-        return false;
-    }
-    size + Event::MAX <= room - used
+    true
 }
 
 // Each member of m has room for what it writes of e.
@@ -89,19 +85,11 @@ fn finish_one(v: Value, p: u8, room: usize, bytes: &mut [u8], lengths: &mut [usi
     requires { ⌜ (p * room + room ≤ length (now bytes)) × (p < length (now lengths)) ⌝ }
     ensures { λ _. ⌜ Writes room p (written (finishing room v p (getD (now (lengths .entry)) p 0))) (now (bytes .entry)) (now (lengths .entry)) (now (bytes .exit)) (now (lengths .exit)) ⌝ }
 {
-    let used = lengths[p as usize];
-    if room < used {
-        return;
-    }
-    if room - used < Event::MAX {
-        return;
-    }
-    let start = (p as usize) * room;
-    let end = start + room;
+    let i = p as usize;
+    let from = i * room;
+    let to = from + room;
     let own = v.slice(Party { index: p });
-    let last = Event::finished(own);
-    last.store(&mut bytes[start..end], used);
-    lengths[p as usize] = used + Event::MAX;
+    lengths[i] = Event::finished(own).close(&mut bytes[from..to], lengths[i]);
 }
 
 // Every party writes kind 6, each its slice of v.

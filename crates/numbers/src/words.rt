@@ -47,12 +47,12 @@ pub fn load4(s: &[u8], at: usize) -> u32
     wide(s[at]) + 256 * (wide(s[at + 1]) + 256 * (wide(s[at + 2]) + 256 * wide(s[at + 3])))
 }
 
-pub fn store2(s: &mut [u8], at: usize, n: u16)
+pub fn store2(s: &mut [u8], at: usize, half: u16)
     requires { ⌜ at + 2 ≤ length (now s) ⌝ }
-    ensures { λ _. ⌜ now (s .exit) ≡ sets (now (s .entry)) at (lowFirst 2 n) ⌝ }
+    ensures { λ _. ⌜ now (s .exit) ≡ sets (now (s .entry)) at (lowFirst 2 half) ⌝ }
 {
-    s[at] = (n % 256) as u8;
-    s[at + 1] = (n / 256 % 256) as u8;
+    s[at] = (half % 256) as u8;
+    s[at + 1] = (half / 256 % 256) as u8;
 }
 
 pub fn store4(s: &mut [u8], at: usize, n: u32)

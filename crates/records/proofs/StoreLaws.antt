@@ -1,15 +1,16 @@
 -- Writing an event: runs of stores that follow each other, and the length of what an arm writes. Assumes nothing.
-use mathlib.Core.Path.{_≡_, sym}
+use mathlib.Core.Path.{_≡_, refl, sym, _∙_}
 use mathlib.Core.List.{List, _++_}
-use mathlib.Core.Bool.{true, false}
-use Prim.Native.Nat.{ℕ, _+_, _≤_, _<_}
+use mathlib.Core.Bool.{Bool, true, false}
+use Prim.Native.Nat.{ℕ, _+_, _-_, _≤_, _<_}
+use native.Mathlib.Omega.{arith}
 use lib.Dec.{leb}
 use lib.ListN.{length}
 use lib.Seq.{sets}
-use borrow.Author.Tests.{le-leb, lt-leb}
+use borrow.Author.Tests.{leb-true, leb-false, le-leb, lt-leb}
 use Rattle.numbers.proofs.StretchLaws.{sets-append}
 use Rattle.records.specs.Events.{eventBytes, heldBack, hasRoom}
-use Rattle.records.specs.Append.{Appends}
+use Rattle.records.specs.Append.{Appends, Closes}
 use Rattle.records.specs.EventLaws.{sized, event-length}
 use Rattle.records.specs.declared.events.Event.{Event}
 use Rattle.records.specs.declared.events.Appended.the-variants.{To, NoRoom}
@@ -29,17 +30,41 @@ module _ (e d : Event) (is : e ≡ d) where
   pub stored-is : (xs ys : List ℕ) (at : ℕ) → ys ≡ sets xs at (eventBytes d) → ys ≡ sets xs at (eventBytes e)
   stored-is xs ys at h = rw is h
 
--- the two answers of the room test
-module _ (e : Event) (used : ℕ) (xs : List ℕ) where
-  pub no-room : length xs < used + length (eventBytes e) + heldBack → Appends e used xs NoRoom xs
+-- ---- the room test
+module _ (R used : ℕ) (e : Event) where
+  -- all is used, or more
+  pub full : R < used → false ≡ hasRoom R used e
   unfolding hasRoom
-  no-room h =
-      let t : leb (used + length (eventBytes e) + heldBack) (length xs) ≡ false = lt-leb _ _ h in
-      record { answer = rw t; bytes = rw t }
+  full h = sym (lt-leb (used + length (eventBytes e) + heldBack) R (omega arith))
 
-  pub appended : (n : ℕ) (ys : List ℕ) → n ≡ length (eventBytes e) → used + length (eventBytes e) + heldBack ≤ length xs → ys ≡ sets xs used (eventBytes e)
-      → Appends e used xs (To (used + n)) ys
+  -- the test against what is left
+  pub left-over : (n : ℕ) → n ≡ length (eventBytes e) → used ≤ R → leb (n + heldBack) (R - used) ≡ hasRoom R used e
   unfolding hasRoom
-  appended n ys en h ey =
-      let t : leb (used + length (eventBytes e) + heldBack) (length xs) ≡ true = le-leb _ _ h in
-      record { answer = rw (t, en); bytes = rw (t, ey) }
+  left-over n l h = rw l (go (leb (L + heldBack) (R - used)) refl)
+    where
+      L : ℕ
+      L = length (eventBytes e)
+
+      go : (t : Bool) → leb (L + heldBack) (R - used) ≡ t → t ≡ leb (used + L + heldBack) R
+      go true q = sym (le-leb (used + L + heldBack) R (omega (arith, leb-true (L + heldBack) (R - used) q)))
+      go false q = sym (lt-leb (used + L + heldBack) R (omega (arith, leb-false (L + heldBack) (R - used) q)))
+
+  -- where there is room the event fits
+  pub has-fits : (t : Bool) → t ≡ hasRoom R used e → t ≡ true → used + length (eventBytes e) + heldBack ≤ R
+  unfolding hasRoom
+  has-fits t a h = leb-true (used + length (eventBytes e) + heldBack) R (sym a ∙ h)
+
+-- the two answers to a write
+module _ (e : Event) (used : ℕ) (xs : List ℕ) where
+  pub no-room : (t : Bool) → t ≡ hasRoom (length xs) used e → t ≡ false → Appends e used xs NoRoom xs
+  no-room t a h = record { answer = rw (← a, h); bytes = rw (← a, h) }
+
+  pub appended : (t : Bool) (n : ℕ) (ys : List ℕ) → t ≡ hasRoom (length xs) used e → t ≡ true → n ≡ length (eventBytes e) → ys ≡ sets xs used (eventBytes e)
+      → Appends e used xs (To (used + n)) ys
+  appended t n ys a h en ey = record { answer = rw (← a, h, en); bytes = rw (← a, h, ey) }
+
+  pub not-closed : length xs < used + heldBack → Closes e used xs used xs
+  not-closed h = let t : leb (used + heldBack) (length xs) ≡ false = lt-leb _ _ h in record { answer = rw t; bytes = rw t }
+
+  pub closed : (n : ℕ) (ys : List ℕ) → used + heldBack ≤ length xs → n ≡ length (eventBytes e) → ys ≡ sets xs used (eventBytes e) → Closes e used xs (used + n) ys
+  closed n ys h en ey = let t : leb (used + heldBack) (length xs) ≡ true = le-leb _ _ h in record { answer = rw (t, en); bytes = rw (t, ey) }

@@ -6,8 +6,8 @@ ghost use lib.ListN.{length};
 ghost use lib.Seq.{sets};
 ghost use Rattle.numbers.specs.Words.{integerBytes};
 ghost use Rattle.parties.specs.SetBytes.{setBytes};
-ghost use Rattle.records.specs.Events.{eventBytes, finished};
-ghost use Rattle.records.specs.Append.{Appends};
+ghost use Rattle.records.specs.Events.{eventBytes, finished, hasRoom};
+ghost use Rattle.records.specs.Append.{Appends, Closes};
 use parties::limits::Party;
 use parties::sets::PartySet;
 use values::value::Value;
@@ -67,19 +67,40 @@ impl Event {
         }
     }
 
-    // Writes the event after the `used` bytes of the record s, where enough is left for it and for the last event.
+    // After the `used` bytes of a record with so much room, enough is left for the event and for the last one.
+    pub fn has_room(self, room: usize, used: usize) -> bool
+        ensures { λ r. ⌜ r ≡ hasRoom room used self ⌝ }
+    {
+        let n = self.size();
+        if room < used {
+            return false;
+        }
+        n + Event::MAX <= room - used
+    }
+
+    // Writes the event after the `used` bytes of the record s, where it has room.
     pub fn append(self, s: &mut [u8], used: usize) -> Appended
         ensures { λ r. ⌜ Appends self used (now (s .entry)) r (now (s .exit)) ⌝ }
     {
-        let n = self.size();
-        if s.len() < used {
-            return Appended::NoRoom;
+        if self.has_room(s.len(), used) {
+            self.store(s, used);
+            return Appended::To(used + self.size());
         }
-        if s.len() - used < n + Event::MAX {
-            return Appended::NoRoom;
+        Appended::NoRoom
+    }
+
+    // Writes the last event after the `used` bytes of a record, in what was held back for it. Answers how many bytes are then used.
+    pub fn close(self, bytes: &mut [u8], used: usize) -> usize
+        ensures { λ r. ⌜ Closes self used (now (bytes .entry)) r (now (bytes .exit)) ⌝ }
+    {
+        if bytes.len() < used {
+            return used;
         }
-        self.store(s, used);
-        Appended::To(used + n)
+        if bytes.len() - used < Event::MAX {
+            return used;
+        }
+        self.store(bytes, used);
+        used + self.size()
     }
 
     // The last event of a site that finished with v. A share's number is not shown.
