@@ -2,11 +2,12 @@
 use mathlib.Core.Path.{_≡_, refl, sym, ap, _∙_}
 use mathlib.Core.Bool.{Bool, true, false}
 use native.Mathlib.Omega.{arith}
+use lib.Dec.{eqb}
 use lib.IntN.{ℤ, pos, negsuc}
 use lib.Signed.{ltZ}
 use mir.Syntax.{w32}
 use mir.Val.{SFits, toZ, ofZ}
-use borrow.Author.Tests.{le-ltb, eq-eqb, eqb-true}
+use borrow.Author.Tests.{le-ltb, eq-eqb, eqb-true, eqb-false}
 use Rattle.numbers.specs.Integers.{sameInteger, negative, flag, operate}
 use Rattle.numbers.specs.declared.integers.Operation.{Operation}
 use Rattle.numbers.specs.declared.integers.Operation.the-variants.{Sub, Lt}
@@ -34,6 +35,13 @@ bits-other x y n = go (sameInteger x y) refl
     go : (t : Bool) → sameInteger x y ≡ t → t ≡ false
     go true e = absurd (n (ap (ofZ w32) (same-yes x y e)))
     go false e = refl
+
+pub bits-eqb : (x y : ℤ) → SFits w32 x → SFits w32 y → eqb (ofZ w32 x) (ofZ w32 y) ≡ sameInteger x y
+bits-eqb x y hx hy = go (eqb (ofZ w32 x) (ofZ w32 y)) refl
+  where
+    go : (t : Bool) → eqb (ofZ w32 x) (ofZ w32 y) ≡ t → t ≡ sameInteger x y
+    go true e = sym (bits-same x y hx hy (eqb-true (ofZ w32 x) (ofZ w32 y) e))
+    go false e = sym (bits-other x y (eqb-false (ofZ w32 x) (ofZ w32 y) e))
 
 -- ---- lt: the sign of the reduced difference d
 less-negative : (x : ℤ) (b : Bool) → ltZ x (pos 0) ≡ b → negative x ≡ b

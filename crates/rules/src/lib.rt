@@ -4,3 +4,4 @@ pub mod bindings; // bindings.rt: what a rule is handed
 pub mod numbered; // numbered.rt: the rules that want their values at exactly m: OP, MUX, WRITE, EMBED, CASE; and READ
 pub mod joined; // joined.rt: the rules that know who takes the step: SHARE, REVEAL, PAR
 pub mod judged; // judged.rt: all thirteen
+pub mod meetings; // meetings.rt: what a meeting writes and hands back

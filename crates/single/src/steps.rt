@@ -126,28 +126,9 @@ fn met(
     requires { ⌜ (n ≤ maxParties) × (n * room ≤ length (now bytes)) × (n ≤ length (now lengths)) × (t .depth .frames ≤ maxFrames) × (areaSize ≤ length (now work)) ⌝ }
     ensures { λ y. ⌜ Settles room n (eventOf mt i) (Move.Hand (handed mt i)) t y (now (bytes .entry)) (now (lengths .entry)) (now (work .entry)) (now (bytes .exit)) (now (lengths .exit)) (now (work .exit)) ⌝ }
 {
-    match mt {
-        Meeting::Sharing(a, q) => settled(
-            Event::Shared(a, q),
-            Move::Hand(Value::Share(i, q, q)),
-            t,
-            n,
-            room,
-            bytes,
-            lengths,
-            work,
-        ),
-        Meeting::Revealing(q) => settled(
-            Event::Opened(q, i),
-            Move::Hand(Value::Clear(i, q)),
-            t,
-            n,
-            room,
-            bytes,
-            lengths,
-            work,
-        ),
-    }
+    let ev = rules::meetings::event_of(mt, i);
+    let v = rules::meetings::handed(mt, i);
+    settled(ev, Move::Hand(v), t, n, room, bytes, lengths, work)
 }
 
 // What the node at which control stands asks for is done.

@@ -1,0 +1,3 @@
+pub mod ActLaws
+pub mod OwnLaws
+pub mod AttendLaws

@@ -1,0 +1,25 @@
+-- Whether a site is at a meeting, in the rules' terms.
+use mathlib.Core.Path.{_≡_}
+use Prim.Native.Nat.{ℕ}
+use mathlib.Core.List.{List}
+use lib.ListN.{length}
+use Rattle.parties.specs.declared.limits.Party.{Party}
+use Rattle.parties.specs.declared.sets.PartySet.{PartySet}
+use Rattle.program.specs.Check.{Program, good, checked}
+use Rattle.rules.specs.Books.{Book, used}
+use Rattle.rules.specs.Joint as Joint
+use Rattle.rules.specs.Joint.{away, there, attendance}
+use Rattle.area.specs.Table.{PlacesIn}
+use Rattle.area.specs.Seats.{siteOf}
+use Rattle.site.specs.declared.attends.Attendance.{Attendance}
+use Rattle.site.specs.declared.attends.Attendance.the-variants.{Away, There}
+
+-- what the code's answer says
+abbrev pub told : Attendance → Joint.Attendance
+told Away = away
+told (There o) = there o
+
+-- the answer r to whether site P is at the node e in mode m, by the bytes w of its area and the length of its record
+pub record IsAt (bs : List ℕ) (nodes e : ℕ) (m : PartySet) (P : Party) (room length′ : ℕ) (r : Attendance) (w : List ℕ) : Type 0 where
+  pub comes : (p : Program) → checked bs ≡ good p → length (p .nodes) ≡ nodes → PlacesIn bs nodes w → (b : Book) → used b ≡ length′
+      → told r ≡ attendance (record { program = p; room = room }) e m (P .index) (siteOf w b)

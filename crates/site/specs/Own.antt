@@ -1,0 +1,52 @@
+-- What a site's own rule asks of it, in the rules' terms.
+use mathlib.Core.Path.{_≡_}
+use Prim.Native.Nat.{ℕ}
+use mathlib.Core.List.{List}
+use mathlib.Core.Option.{none, some}
+use lib.IntN.{pos}
+use lib.ListN.{length}
+use Rattle.parties.specs.declared.limits.Party.{Party}
+use Rattle.values.specs.declared.value.Value.the-variants.{Clear}
+use Rattle.program.specs.Check.{Program, good, checked}
+use Rattle.records.specs.declared.events.Event.the-variants.{Wrote}
+use Rattle.rules.specs.Books.{Book, used}
+use Rattle.rules.specs.Moves.{Control}
+use Rattle.rules.specs.Single.{Setting}
+use Rattle.rules.specs.Joint as Joint
+use Rattle.rules.specs.Joint.{Site, running, stop, settle, readOwn, own, acts, attends}
+use Rattle.rules.specs.declared.effects.Move.the-variants.{Hand}
+use Rattle.rules.specs.declared.effects.Effect.{Effect}
+use Rattle.rules.specs.declared.effects.Effect.the-variants.{Refuse, Goes, Reads, Writes, Meets}
+use Rattle.area.specs.Levels.{controlOf}
+use Rattle.area.specs.Table.{PlacesIn}
+use Rattle.area.specs.declared.stand.Stand.{Stand}
+use Rattle.site.specs.declared.own.Own.{Own}
+use Rattle.site.specs.declared.own.Own.the-variants.{Acts, Attends}
+
+-- the site after an effect that it does by itself
+unfoldable pub acted : Setting → ℕ → Control → Book → Effect → Site
+acted S P c b (Refuse refusal) = stop refusal (c .node) b
+acted S P c b (Goes mv) = settle S P c b none mv
+acted S P c b Reads = readOwn S P c b (b .inputs)
+acted S P c b (Writes i) = settle S P c b (some (Wrote i)) (Hand (Clear (pos 0) (c .mode)))
+acted S P c b (Meets mt o) = running c b
+
+-- what the code's answer says
+abbrev pub ownOf : Setting → ℕ → Control → Book → Own → Joint.Own
+ownOf S P c b (Acts effect) = acts (acted S P c b effect)
+ownOf S P c b (Attends mt o) = attends mt o
+
+-- a site meets nobody by itself
+abbrev pub Alone : Own → Type 0
+Alone (Acts (Refuse refusal)) = Unit {0}
+Alone (Acts (Goes mv)) = Unit {0}
+Alone (Acts Reads) = Unit {0}
+Alone (Acts (Writes i)) = Unit {0}
+Alone (Acts (Meets mt o)) = ⊥
+Alone (Attends mt o) = Unit {0}
+
+-- the answer r to what site P, which stands at t, is asked to do, by the bytes w of its area and the length of its record
+pub record Owns (bs : List ℕ) (nodes : ℕ) (P : Party) (t : Stand) (room length′ : ℕ) (r : Own) (w : List ℕ) : Type 0 where
+  pub comes : (p : Program) → checked bs ≡ good p → length (p .nodes) ≡ nodes → PlacesIn bs nodes w → (b : Book) → used b ≡ length′
+      → own (record { program = p; room = room }) (P .index) (controlOf t w) b ≡ ownOf (record { program = p; room = room }) (P .index) (controlOf t w) b r
+  pub alone : Alone r

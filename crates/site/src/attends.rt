@@ -1,0 +1,66 @@
+// Whether a site is at a meeting, and what it brings.
+ghost use mathlib.Core.Path.{_≡_};
+ghost use Prim.Native.Nat.{_≤_};
+ghost use lib.ListN.{length};
+ghost use Rattle.rules.specs.Joint.{agrees};
+ghost use Rattle.rules.specs.Lent.{areaSize};
+ghost use Rattle.site.specs.Attends.{told, IsAt};
+use crate::own::Own;
+use area::seats::Seat;
+use parties::limits::Party;
+use parties::sets::PartySet;
+use rules::effects::Offer;
+
+pub enum Attendance {
+    Away,
+    There(Offer),
+}
+
+// Site p stands at the node e in mode m and passes its own checks, or is away.
+pub fn attendance_of(
+    program: &[u8],
+    nodes: usize,
+    e: u16,
+    m: PartySet,
+    p: Party,
+    room: usize,
+    used: usize,
+    area: &[u8],
+) -> Attendance
+    requires { ⌜ areaSize ≤ length (now area) ⌝ }
+    ensures { λ r. ⌜ IsAt (now (program .entry)) nodes e m p room used r (now (area .entry)) ⌝ }
+{
+    let Seat::Running(t) = area::seats::load_seat(area) else {
+        return Attendance::Away;
+    };
+    let node = t.node;
+    let mode = t.mode;
+    if node != e {
+        return Attendance::Away;
+    }
+    if !mode.is(m) {
+        return Attendance::Away;
+    }
+    let Own::Attends(_, offer) = crate::own::asked(program, nodes, p, t, room, used, area) else {
+        return Attendance::Away;
+    };
+    Attendance::There(offer)
+}
+
+// What site p brings agrees with the number i and its holders h.
+pub fn agrees(i: i32, h: PartySet, p: Party, a: Attendance) -> bool
+    ensures { λ r. ⌜ r ≡ agrees i h (p .index) (told a) ⌝ }
+{
+    let Attendance::There(offer) = a else {
+        return false;
+    };
+    let Offer::Secret(j, k) = offer else {
+        return !h.has(p);
+    };
+    if h.has(p) {
+        if k.is(h) {
+            return j == i;
+        }
+    }
+    false
+}
