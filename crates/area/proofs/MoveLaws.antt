@@ -212,7 +212,7 @@ module _ (x : Name) (e1 e2 : ℕ) (t : Stand) (up : Depth) (at : ℕ) (w w1 w2 w
 
 -- ---- a body is called
 -- a part that was lent comes back as a run of stores
-part-back : (a k : ℕ) (w ys : List ℕ) → length ys ≡ k → a + k ≤ length w → take a w ++ (ys ++ drop k (drop a w)) ≡ sets w a ys
+pub part-back : (a k : ℕ) (w ys : List ℕ) → length ys ≡ k → a + k ≤ length w → take a w ++ (ys ++ drop k (drop a w)) ≡ sets w a ys
 part-back a k w ys e h =
     let l : a + length ys ≤ length w = omega arith in
     rw (sets-eq ys w a l, drop-drop k a w, ← e, append-assoc)
