@@ -1,0 +1,179 @@
+-- A meeting is concluded: a member's part, one site's, and all of them one after the other. Assumes nothing.
+use mathlib.Core.Path.{_≡_, refl, sym, ap, _∙_, subst}
+use mathlib.Core.Bool.{true, false, _&&_, cond}
+use mathlib.Core.List.{List, [], _∷_, append-nil}
+use Prim.Native.Nat.{ℕ, _+_, _*_, _≤_, _<_}
+use native.Mathlib.Nat.{add-zero}
+use native.Mathlib.Decide.{decLt, ℕ-discrete}
+use native.Mathlib.Omega.{arith}
+use borrow.Author.Tests.{lt-ltb, le-ltb}
+use denote.Enum.{Declared.tagOf}
+use types.Run.{miss}
+use lib.Dec.{ltb}
+use lib.IntN.{ℤ}
+use lib.ListN.{length, getD, set}
+use Rattle.parties.specs.Sets.{member}
+use Rattle.parties.specs.declared.limits.Party.{Party}
+use Rattle.parties.specs.declared.sets.PartySet.{PartySet}
+use Rattle.values.specs.Values.{slice}
+use Rattle.records.specs.Events.{written, heldBack}
+use Rattle.refusals.specs.Numbers.{disagreement}
+use Rattle.rules.specs.Books.{Book, used, handed, eventOf}
+use Rattle.rules.specs.Lent.{areaSize}
+use Rattle.rules.specs.Single.{Setting}
+use Rattle.rules.specs.Joint.{Site, Sites, running, stop, joinsBy, joins, parts, putAll, bookOf}
+use Rattle.rules.specs.declared.effects.Move.the-variants.{Hand}
+use Rattle.rules.specs.declared.effects.Meeting.{Meeting}
+use Rattle.rules.specs.declared.effects.Offer.{Offer}
+use Rattle.rules.specs.declared.effects.Effect.{Effect}
+use Rattle.area.specs.Levels.{controlOf}
+use Rattle.area.specs.Seats.{seatAt, seated, siteOf}
+use Rattle.area.specs.declared.stand.Stand.{Stand}
+use Rattle.area.specs.declared.seats.Seat.{Seat}
+use Rattle.area.specs.declared.seats.Seat.the-variants.{Running, Finished, Stopped}
+use Rattle.site.specs.Own.{Owns}
+use Rattle.site.specs.Acts.{Fits, Took, Takes, Settles}
+use Rattle.site.specs.declared.own.Own.{Own}
+use Rattle.site.specs.declared.own.Own.the-variants.{Acts, Attends}
+use Rattle.site.proofs.AttendLaws.{NotRunning}
+use Rattle.sites.specs.Places.{row, areaOf, settingOf, Given, Stands}
+use Rattle.sites.specs.Concludes.{concluding, TakesPart, ConcludesOne, ConcludesAll}
+use Rattle.sites.specs.declared.concludes.Outcome.{Outcome}
+use Rattle.sites.specs.declared.concludes.Outcome.the-variants.{Joins, Parts}
+use Rattle.sites.proofs.RowLaws.{back, row-length}
+use Rattle.sites.proofs.StandLaws.{stands-same, stands-length, stands-long, stands-changed}
+
+-- ---- a member's part, on its own record and area
+module _ (bs : List ℕ) (nodes : ℕ) (outcome : Outcome) (t : Stand) (P : Party) (u : ℕ) (xs w : List ℕ) where
+  pub parts-with : (u′ : ℕ) (xs′ w′ : List ℕ) → outcome ≡ Parts → Takes (stop disagreement (t .node)) u xs w u′ xs′ w′ → TakesPart bs nodes outcome t P u xs w u′ xs′ w′
+  unfolding parts controlOf
+  parts-with u′ xs′ w′ q s = rw q (record { part = λ p g len places seat b o h. s .took b o h; table = s .table })
+
+  module _ (i : ℤ) (joins′ : outcome ≡ Joins i) (r : Own) (owns : Owns bs nodes P t (length xs) u r w) where
+    -- it is not at the meeting
+    pub joins-not : (effect : Effect) → r ≡ Acts effect → TakesPart bs nodes outcome t P u xs w u xs w
+    unfolding joins joinsBy siteOf
+    joins-not effect q =
+        rw joins′
+        record {
+          part = λ p g len places seat b o h.
+              rw (owns .comes p g len places b o, q)
+              record {
+                more = [];
+                bytes = refl;
+                count = sym (add-zero u);
+                grown = sym (append-nil (written (b .events)));
+                fits = rw o h;
+                stands = rw seat;
+              };
+          table = refl;
+        }
+
+    pub joins-in : (mt : Meeting) (o : Offer) (u′ : ℕ) (xs′ w′ : List ℕ) → r ≡ Attends mt o → Settles (eventOf mt i) (Hand (slice (P .index) (handed mt i))) t P u xs w u′ xs′ w′
+        → TakesPart bs nodes outcome t P u xs w u′ xs′ w′
+    unfolding joins joinsBy
+    joins-in mt o u′ xs′ w′ q s =
+        rw joins′
+        record {
+          part = λ p g len places seat b e h. rw (owns .comes p g len places b e, q) (s .settles (settingOf p (length xs)) refl .took b e h);
+          table = s .table;
+        }
+
+-- ---- one site
+-- who runs no more comes to nothing else
+over-stays : (outcome : Outcome) (S : Setting) (P : ℕ) (seat : Seat) (w : List ℕ) (b : Book) → NotRunning seat → concluding outcome S P (seated seat w b) ≡ seated seat w b
+unfolding joins parts
+over-stays outcome S P (Running t) w b h = absurd (miss (1 ∷ 2 ∷ []) 0 tt h)
+over-stays (Joins i) S P Finished w b h = refl
+over-stays Parts S P Finished w b h = refl
+over-stays (Joins i) S P Stopped w b h = refl
+over-stays Parts S P Stopped w b h = refl
+
+module _ (bs : List ℕ) (nodes : ℕ) (outcome : Outcome) (m : PartySet) (P room : ℕ) (bytes lengths work : List ℕ) where
+  stays : ((n : ℕ) (G : Given bs nodes room n) (J : Sites) → P < n → Stands G J bytes lengths work
+      → cond (member P m) (concluding outcome (settingOf (G .program) room) P (J P)) (J P) ≡ J P) → ConcludesOne bs nodes outcome m P room bytes lengths work bytes lengths work
+  stays k =
+      record {
+        comes = λ n G J J′ inside st own others.
+            stands-same G J J′ bytes lengths work st
+            (λ Q h. elim (ℕ-discrete Q P) [
+              | yes e ↦ rw e (own ∙ k n G J inside st)
+              | no d ↦ others Q d
+            ]);
+      }
+
+  pub no-member : member P m ≡ false → ConcludesOne bs nodes outcome m P room bytes lengths work bytes lengths work
+  no-member h = stays (λ n G J inside st. rw h)
+
+  module _ (within : member P m ≡ true) (seat : Seat) (sits : seat ≡ seatAt (areaOf P work)) where
+    pub member-over : NotRunning seat → ConcludesOne bs nodes outcome m P room bytes lengths work bytes lengths work
+    unfolding siteOf
+    member-over h =
+        stays
+        (λ n G J inside st.
+        let e : J P ≡ seated seat (areaOf P work) (bookOf (J P)) = st .sits P inside ∙ rw (← sits) in
+        let k : concluding outcome (settingOf (G .program) room) P (J P) ≡ J P
+        = ap (concluding outcome (settingOf (G .program) room) P) e ∙ over-stays outcome (settingOf (G .program) room) P seat (areaOf P work) (bookOf (J P)) h ∙ sym e in
+        rw within k)
+
+    module _ (t : Stand) (runs : seat ≡ Running t) (u′ : ℕ) (ys ws : List ℕ) (area : length ws ≡ areaSize) (long : P * areaSize + areaSize ≤ length work)
+        (takes : TakesPart bs nodes outcome t (record { index = P }) (getD lengths P 0) (row room P bytes) (areaOf P work) u′ ys ws) where
+      pub member-runs : ConcludesOne bs nodes outcome m P room bytes lengths work (back room P bytes ys) (set lengths P u′) (back areaSize P work ws)
+      unfolding siteOf
+      member-runs =
+          record {
+            comes = λ n G J J′ inside st own others.
+                let S : Setting = settingOf (G .program) room in
+                let b : Book = bookOf (J P) in
+                let c : J P ≡ running (controlOf t (areaOf P work)) b = st .sits P inside ∙ rw (← sits, runs) in
+                let room-is : length (row room P bytes) ≡ room = row-length room P bytes (stands-long G J J bytes lengths work st P inside) in
+                let fits : used b + heldBack ≤ room = subst (λ (s : Site). Fits room s) c (st .fits P inside) in
+                let count : used b ≡ getD lengths P 0 = stands-length G J J bytes lengths work st P inside in
+                let k : Took b (concluding outcome (settingOf (G .program) (length (row room P bytes))) P (running (controlOf t (areaOf P work)) b)) (getD lengths P 0) (row room P bytes) u′ ys ws
+                = takes .part (G .program) (G .sound) (G .count) (st .tables P inside) (sym sits ∙ runs) b count (rw (← count, room-is) fits) in
+                let s : J′ P ≡ concluding outcome (settingOf (G .program) (length (row room P bytes))) P (running (controlOf t (areaOf P work)) b)
+                = own ∙ rw within (ap (concluding outcome S P) c ∙ ap (λ (R : ℕ). concluding outcome (settingOf (G .program) R) P (running (controlOf t (areaOf P work)) b)) (sym room-is)) in
+                stands-changed G J J′ bytes lengths work st P inside others u′ ys ws long area
+                (subst (λ (x : Site). Took b x (getD lengths P 0) (row room P bytes) u′ ys ws) (sym s) k) (takes .table);
+          }
+
+-- ---- all members, one after the other
+-- the sites once those below k have come to their conclusion
+unfoldable pub below : ℕ → PartySet → (ℕ → Site → Site) → Sites → Sites
+below k m f J = λ Q. cond (ltb Q k && member Q m) (f Q (J Q)) (J Q)
+
+-- the bytes hold them
+pub record Going (bs : List ℕ) (nodes : ℕ) (outcome : Outcome) (m : PartySet) (n room k : ℕ) (bytes₀ lengths₀ work₀ bytes lengths work : List ℕ) : Type 0 where
+  pub so : (G : Given bs nodes room n) (J : Sites) → Stands G J bytes₀ lengths₀ work₀ → Stands G (below k m (concluding outcome (settingOf (G .program) room)) J) bytes lengths work
+
+module _ (bs : List ℕ) (nodes : ℕ) (outcome : Outcome) (m : PartySet) (n room : ℕ) (bytes₀ lengths₀ work₀ : List ℕ) where
+  pub going-none : Going bs nodes outcome m n room 0 bytes₀ lengths₀ work₀ bytes₀ lengths₀ work₀
+  unfolding below
+  going-none = record { so = λ G J st. stands-same G J (below 0 m (concluding outcome (settingOf (G .program) room)) J) bytes₀ lengths₀ work₀ st (λ Q h. rw (le-ltb Q 0 (omega arith))) }
+
+  module _ (k : ℕ) (bytes lengths work bytes′ lengths′ work′ : List ℕ) where
+    pub going-more : k < n → Going bs nodes outcome m n room k bytes₀ lengths₀ work₀ bytes lengths work
+        → ConcludesOne bs nodes outcome m k room bytes lengths work bytes′ lengths′ work′ → Going bs nodes outcome m n room (k + 1) bytes₀ lengths₀ work₀ bytes′ lengths′ work′
+    unfolding below
+    going-more h g c =
+        record {
+          so = λ G J st.
+              let f : ℕ → Site → Site = concluding outcome (settingOf (G .program) room) in
+              let own : below (k + 1) m f J k ≡ cond (member k m) (f k (below k m f J k)) (below k m f J k)
+              = rw (lt-ltb k (k + 1) (omega arith), le-ltb k k (omega arith)) in
+              c .comes n G (below k m f J) (below (k + 1) m f J) h (g .so G J st) own
+              (λ Q d. elim (decLt Q k) [
+                | yes l ↦ rw (lt-ltb Q k l, lt-ltb Q (k + 1) (omega arith))
+                | no l ↦ rw (le-ltb Q k (omega arith), le-ltb Q (k + 1) (omega arith))
+              ]);
+        }
+
+  pub going-all : (k : ℕ) (bytes lengths work : List ℕ) → k ≤ n → n ≤ k → Going bs nodes outcome m n room k bytes₀ lengths₀ work₀ bytes lengths work
+      → ConcludesAll bs nodes outcome m n room bytes₀ lengths₀ work₀ bytes lengths work
+  unfolding below putAll
+  going-all k bytes lengths work a b g =
+      record {
+        comes = λ G J st.
+            let f : ℕ → Site → Site = concluding outcome (settingOf (G .program) room) in
+            stands-same G (below k m f J) (putAll m f J) bytes lengths work (g .so G J st) (λ Q h. rw (lt-ltb Q k (omega arith)));
+      }

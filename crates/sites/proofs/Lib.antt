@@ -1,0 +1,6 @@
+pub mod RowLaws
+pub mod StandLaws
+pub mod MeetLaws
+pub mod ConcludeLaws
+pub mod InputLaws
+pub mod TurnLaws

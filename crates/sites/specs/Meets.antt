@@ -1,0 +1,54 @@
+-- Who is at a meeting, in the rules' terms. A reader's answer r is said of the sites that the lengths and the working area hold.
+use mathlib.Core.Path.{_≡_}
+use Prim.Native.Nat.{ℕ, _<_}
+use mathlib.Core.Bool.{Bool, not, _||_, cond}
+use mathlib.Core.List.{List}
+use lib.IntN.{ℤ}
+use lib.ListN.{length}
+use Rattle.parties.specs.Sets.{member}
+use Rattle.parties.specs.declared.sets.PartySet.{PartySet}
+use Rattle.program.specs.Check.{Program, good, checked}
+use Rattle.rules.specs.Single.{allOf}
+use Rattle.rules.specs.Joint.{Site, Sites, Attendance, away, there, attendance, isThere, orElse, brought, agrees, allAgree}
+use Rattle.rules.specs.declared.effects.Meeting.{Meeting}
+use Rattle.rules.specs.declared.effects.Offer.{Offer}
+use Rattle.sites.specs.Places.{settingOf, Sits}
+use Rattle.sites.specs.declared.meets.Gathered.{Gathered}
+use Rattle.sites.specs.declared.meets.Gathered.the-variants.{Missing, All}
+
+-- one member's part in what is gathered, with what was brought before
+abbrev pub adding : Offer → Attendance → Gathered
+adding before away = Missing
+adding before (there o) = All (orElse (there o) before)
+
+-- what all members below n bring, or that one is away
+unfoldable pub gathered : ℕ → PartySet → (ℕ → Attendance) → Gathered
+gathered n m f = cond (allOf n m (λ P. isThere (f P))) (All (brought n m f)) Missing
+
+pub record Brings (bs : List ℕ) (nodes e : ℕ) (m : PartySet) (P room : ℕ) (before : Offer) (r : Gathered) (lengths work : List ℕ) : Type 0 where
+  pub comes : (p : Program) → checked bs ≡ good p → length (p .nodes) ≡ nodes → (s : Site) → Sits bs nodes P s lengths work
+      → r ≡ cond (member P m) (adding before (attendance (settingOf p room) e m P s)) (All before)
+
+pub record MemberAgrees (bs : List ℕ) (nodes e : ℕ) (m : PartySet) (P room : ℕ) (i : ℤ) (h : PartySet) (r : Bool) (lengths work : List ℕ) : Type 0 where
+  pub comes : (p : Program) → checked bs ≡ good p → length (p .nodes) ≡ nodes → (s : Site) → Sits bs nodes P s lengths work
+      → r ≡ (not (member P m) || agrees i h P (attendance (settingOf p room) e m P s))
+
+-- the sites below n that the lengths and the working area hold, and their program
+pub record Sitting (bs : List ℕ) (nodes n : ℕ) (lengths work : List ℕ) : Type 0 where
+  pub program : Program
+  pub sound : checked bs ≡ good program
+  pub count : length (program .nodes) ≡ nodes
+  pub sites : Sites
+  pub sits : (P : ℕ) → P < n → Sits bs nodes P (sites P) lengths work
+
+abbrev pub present : {bs : List ℕ} {nodes n : ℕ} {lengths work : List ℕ} → Sitting bs nodes n lengths work → (room e : ℕ) → PartySet → ℕ → Attendance
+present Z room e m P = attendance (settingOf (Z .program) room) e m P (Z .sites P)
+
+pub record Gathers (bs : List ℕ) (nodes e : ℕ) (m : PartySet) (n room : ℕ) (r : Gathered) (lengths work : List ℕ) : Type 0 where
+  pub comes : (Z : Sitting bs nodes n lengths work) → r ≡ gathered n m (present Z room e m)
+
+pub record AllAgree (bs : List ℕ) (nodes e : ℕ) (m : PartySet) (n room : ℕ) (i : ℤ) (h : PartySet) (r : Bool) (lengths work : List ℕ) : Type 0 where
+  pub comes : (Z : Sitting bs nodes n lengths work) → r ≡ allOf n m (λ P. agrees i h P (present Z room e m P))
+
+pub record Agreed (bs : List ℕ) (nodes e : ℕ) (m : PartySet) (mt : Meeting) (n room : ℕ) (i : ℤ) (h : PartySet) (r : Bool) (lengths work : List ℕ) : Type 0 where
+  pub comes : (Z : Sitting bs nodes n lengths work) → r ≡ allAgree mt n m i h (present Z room e m)

@@ -1,0 +1,184 @@
+// Who is at a meeting, what they bring, and whether they agree. Nothing is written here.
+ghost use Prim.Native.Nat.{_*_, _+_, _≤_, _<_};
+ghost use lib.ListN.{length};
+ghost use Rattle.parties.specs.Limits.{maxParties};
+ghost use Rattle.rules.specs.Lent.{areaSize};
+ghost use Rattle.sites.specs.Meets.{Brings, Gathers, MemberAgrees, AllAgree, Agreed};
+use crate::places::AREA;
+use parties::limits::Party;
+use parties::sets::PartySet;
+use rules::effects::Meeting;
+use rules::effects::Offer;
+use site::attends::Attendance;
+
+// What the members bring, or that one is away.
+pub enum Gathered {
+    Missing,
+    All(Offer),
+}
+
+// With what was brought before: what site p brings if it is a member.
+fn brings(
+    program: &[u8],
+    nodes: usize,
+    e: u16,
+    m: PartySet,
+    p: u8,
+    room: usize,
+    before: Offer,
+    lengths: &[usize],
+    work: &[u8],
+) -> Gathered
+    requires { ⌜ (p < length (now lengths)) × (p * areaSize + areaSize ≤ length (now work)) ⌝ }
+    ensures { λ r. ⌜ Brings (now (program .entry)) nodes e m p room before r (now (lengths .entry)) (now (work .entry)) ⌝ }
+{
+    let i = p as usize;
+    let party = Party { index: p };
+    if !m.has(party) {
+        return Gathered::All(before);
+    }
+    let from = i * AREA;
+    let to = from + AREA;
+    let used = lengths[i];
+    let Attendance::There(offer) = site::attends::attendance_of(
+        program,
+        nodes,
+        e,
+        m,
+        party,
+        room,
+        used,
+        &work[from..to],
+    ) else {
+        return Gathered::Missing;
+    };
+    let Offer::Secret(number, bringers) = offer else {
+        return Gathered::All(before);
+    };
+    Gathered::All(Offer::Secret(number, bringers))
+}
+
+// All members of m are at the node e, and what they bring; or one is away.
+pub fn gather(
+    program: &[u8],
+    nodes: usize,
+    e: u16,
+    m: PartySet,
+    n: u8,
+    room: usize,
+    lengths: &[usize],
+    work: &[u8],
+) -> Gathered
+    requires { ⌜ (n ≤ maxParties) × (n ≤ length (now lengths)) × (n * areaSize ≤ length (now work)) ⌝ }
+    ensures { λ r. ⌜ Gathers (now (program .entry)) nodes e m n room r (now (lengths .entry)) (now (work .entry)) ⌝ }
+{
+    let mut brought = Offer::Empty;
+    let mut p: u8 = 0;
+    while p < n {
+        let Gathered::All(more) = brings(program, nodes, e, m, p, room, brought, lengths, work)
+        else {
+            return Gathered::Missing;
+        };
+        brought = more;
+        p += 1;
+    }
+    Gathered::All(brought)
+}
+
+// Site p is no member of m, or agrees with the number and its holders.
+fn member_agrees(
+    program: &[u8],
+    nodes: usize,
+    e: u16,
+    m: PartySet,
+    p: u8,
+    room: usize,
+    number: i32,
+    holders: PartySet,
+    lengths: &[usize],
+    work: &[u8],
+) -> bool
+    requires { ⌜ (p < length (now lengths)) × (p * areaSize + areaSize ≤ length (now work)) ⌝ }
+    ensures { λ r. ⌜ MemberAgrees (now (program .entry)) nodes e m p room number holders r (now (lengths .entry)) (now (work .entry)) ⌝ }
+{
+    let i = p as usize;
+    let party = Party { index: p };
+    if !m.has(party) {
+        return true;
+    }
+    let from = i * AREA;
+    let to = from + AREA;
+    let used = lengths[i];
+    let a = site::attends::attendance_of(program, nodes, e, m, party, room, used, &work[from..to]);
+    site::attends::agrees(number, holders, party, a)
+}
+
+fn all_agree(
+    program: &[u8],
+    nodes: usize,
+    e: u16,
+    m: PartySet,
+    n: u8,
+    room: usize,
+    number: i32,
+    holders: PartySet,
+    lengths: &[usize],
+    work: &[u8],
+) -> bool
+    requires { ⌜ (n ≤ maxParties) × (n ≤ length (now lengths)) × (n * areaSize ≤ length (now work)) ⌝ }
+    ensures { λ r. ⌜ AllAgree (now (program .entry)) nodes e m n room number holders r (now (lengths .entry)) (now (work .entry)) ⌝ }
+{
+    let mut p: u8 = 0;
+    while p < n {
+        if !member_agrees(
+            program,
+            nodes,
+            e,
+            m,
+            p,
+            room,
+            number,
+            holders,
+            lengths,
+            work,
+        ) {
+            return false;
+        }
+        p += 1;
+    }
+    true
+}
+
+// At a REVEAL the members have to agree; at a SHARE there is nobody to agree with.
+pub fn agreed(
+    program: &[u8],
+    nodes: usize,
+    e: u16,
+    m: PartySet,
+    mt: Meeting,
+    n: u8,
+    room: usize,
+    number: i32,
+    holders: PartySet,
+    lengths: &[usize],
+    work: &[u8],
+) -> bool
+    requires { ⌜ (n ≤ maxParties) × (n ≤ length (now lengths)) × (n * areaSize ≤ length (now work)) ⌝ }
+    ensures { λ r. ⌜ Agreed (now (program .entry)) nodes e m mt n room number holders r (now (lengths .entry)) (now (work .entry)) ⌝ }
+{
+    match mt {
+        Meeting::Sharing(_, _) => true,
+        Meeting::Revealing(_) => all_agree(
+            program,
+            nodes,
+            e,
+            m,
+            n,
+            room,
+            number,
+            holders,
+            lengths,
+            work,
+        ),
+    }
+}

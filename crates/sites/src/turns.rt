@@ -1,0 +1,175 @@
+// A turn: the site steps, or stops by its own check, or nothing changes.
+ghost use mathlib.Core.Path.{_≡_};
+ghost use Prim.Native.Nat.{_*_, _+_, _≤_, _<_};
+ghost use lib.ListN.{length};
+ghost use Rattle.parties.specs.Limits.{maxParties, maxFrames};
+ghost use Rattle.rules.specs.Lent.{areaSize};
+ghost use Rattle.sites.specs.Turns.{once, takenBy, Meets, ActsAlone, Turns};
+use crate::concludes::Outcome;
+use crate::meets::Gathered;
+use crate::places::AREA;
+use area::seats::Seat;
+use area::stand::Stand;
+use ledger::inputs::Taken;
+use parties::limits::Party;
+use parties::sets::PartySet;
+use rules::effects::Effect;
+use rules::effects::Meeting;
+use rules::effects::Offer;
+use site::own::Own;
+
+// All of the mode m meet at the node e, if they can: whether anything was done.
+fn meet(
+    program: &[u8],
+    nodes: usize,
+    e: u16,
+    m: PartySet,
+    mt: Meeting,
+    n: u8,
+    room: usize,
+    bytes: &mut [u8],
+    lengths: &mut [usize],
+    work: &mut [u8],
+) -> bool
+    requires { ⌜ (n ≤ maxParties) × (n * room ≤ length (now bytes)) × (n ≤ length (now lengths)) × (n * areaSize ≤ length (now work)) ⌝ }
+    ensures { λ r. ⌜ Meets (now (program .entry)) nodes e m mt n room r (now (bytes .entry)) (now (lengths .entry)) (now (work .entry)) (now (bytes .exit)) (now (lengths .exit)) (now (work .exit)) ⌝ }
+{
+    let Gathered::All(offer) = crate::meets::gather(program, nodes, e, m, n, room, lengths, work)
+    else {
+        return false;
+    };
+    let Offer::Secret(number, holders) = offer else {
+        return false;
+    };
+    if crate::meets::agreed(
+        program,
+        nodes,
+        e,
+        m,
+        mt,
+        n,
+        room,
+        number,
+        holders,
+        lengths,
+        work,
+    ) {
+        crate::concludes::conclude(
+            program,
+            nodes,
+            Outcome::Joins(number),
+            m,
+            n,
+            room,
+            bytes,
+            lengths,
+            work,
+        );
+        return true;
+    }
+    crate::concludes::conclude(
+        program,
+        nodes,
+        Outcome::Parts,
+        m,
+        n,
+        room,
+        bytes,
+        lengths,
+        work,
+    );
+    true
+}
+
+// A site takes an input by what it does.
+fn takes_input(effect: Effect, input: Taken) -> bool
+    ensures { λ r. ⌜ once r ≡ takenBy effect input ⌝ }
+{
+    let Effect::Reads = effect else {
+        return false;
+    };
+    let Taken::Input(_) = input else {
+        return false;
+    };
+    true
+}
+
+// Site p, which stands at t, does what its own rule asks.
+fn act_alone(
+    effect: Effect,
+    t: Stand,
+    p: u8,
+    room: usize,
+    inputs: &[i32],
+    at: &mut [usize],
+    end: &[usize],
+    bytes: &mut [u8],
+    lengths: &mut [usize],
+    work: &mut [u8],
+)
+    requires { ⌜ (t .depth .frames ≤ maxFrames) × (p * room + room ≤ length (now bytes)) × (p < length (now lengths)) × (p * areaSize + areaSize ≤ length (now work)) × (p < length (now at)) × (p < length (now end)) ⌝ }
+    ensures { λ _. ⌜ ActsAlone effect t p room (now (inputs .entry)) (now (end .entry)) (now (at .entry)) (now (bytes .entry)) (now (lengths .entry)) (now (work .entry)) (now (at .exit)) (now (bytes .exit)) (now (lengths .exit)) (now (work .exit)) ⌝ }
+{
+    let i = p as usize;
+    let input = ledger::inputs::next_input(i, inputs, at, end);
+    let start = i * room;
+    let stop = start + room;
+    let from = i * AREA;
+    let to = from + AREA;
+    let used = lengths[i];
+    lengths[i] = site::acts::act(
+        effect,
+        t,
+        Party { index: p },
+        input,
+        used,
+        &mut bytes[start..stop],
+        &mut work[from..to],
+    );
+    if takes_input(effect, input) {
+        at[i] = at[i] + 1;
+    }
+}
+
+// A turn of site p: whether it counts.
+pub fn turn(
+    program: &[u8],
+    nodes: usize,
+    p: u8,
+    n: u8,
+    room: usize,
+    inputs: &[i32],
+    at: &mut [usize],
+    end: &[usize],
+    bytes: &mut [u8],
+    lengths: &mut [usize],
+    work: &mut [u8],
+) -> bool
+    requires { ⌜ (p < n) × (n ≤ maxParties) × (n * room ≤ length (now bytes)) × (n ≤ length (now lengths)) × (n * areaSize ≤ length (now work)) × (maxParties ≤ length (now at)) × (maxParties ≤ length (now end)) ⌝ }
+    ensures { λ r. ⌜ Turns (now (program .entry)) nodes p n room (now (inputs .entry)) (now (end .entry)) r (now (at .entry)) (now (bytes .entry)) (now (lengths .entry)) (now (work .entry)) (now (at .exit)) (now (bytes .exit)) (now (lengths .exit)) (now (work .exit)) ⌝ }
+{
+    let i = p as usize;
+    let from = i * AREA;
+    let to = from + AREA;
+    let used = lengths[i];
+    let Seat::Running(t) = area::seats::load_seat(&work[from..to]) else {
+        return false;
+    };
+    let e = t.node;
+    let m = t.mode;
+    match site::own::asked(
+        program,
+        nodes,
+        Party { index: p },
+        t,
+        room,
+        used,
+        &work[from..to],
+    ) {
+        Own::Attends(mt, _) => meet(program, nodes, e, m, mt, n, room, bytes, lengths, work),
+        Own::Acts(effect) => {
+            act_alone(effect, t, p, room, inputs, at, end, bytes, lengths, work);
+            true
+        }
+    }
+}
