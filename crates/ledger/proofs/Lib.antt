@@ -7,3 +7,4 @@ pub mod LedgerLaws
 pub mod EndLaws
 pub mod InputLaws
 pub mod OpeningLaws
+pub mod LentLaws

@@ -1,15 +1,32 @@
--- The books at the start: nothing written, no length above 0. Assumes nothing.
+-- The start of a run: where control is, and the books, with nothing written and no length above 0. Assumes nothing.
 use mathlib.Core.Path.{_≡_, refl, ap, _∙_}
-use mathlib.Core.List.{List}
-use Prim.Native.Nat.{ℕ, zero, suc, _+_, _≤_}
+use mathlib.Core.List.{List, []}
+use Prim.Native.Nat.{ℕ, zero, suc, _+_, _-_, _≤_}
 use native.Mathlib.Numerals.{add-one}
 use native.Mathlib.Omega.{arith}
 use lib.IntN.{ℤ}
-use lib.ListN.{length, set}
+use lib.ListN.{length, getD, set, replicate}
+use Rattle.parties.specs.Sets.{all}
+use Rattle.parties.specs.declared.sets.PartySet.{PartySet}
+use Rattle.program.specs.Check.{Program}
 use Rattle.records.specs.Events.{written, heldBack}
 use Rattle.rules.specs.Books.{opening, used}
+use Rattle.rules.specs.Moves.{start}
+use Rattle.rules.specs.Names.{noneBound}
 use Rattle.rules.specs.Lent.{recordsLeft, lengthsLeft}
 use Rattle.ledger.specs.Ledger.{noneUsed, Fits}
+
+-- ---- control at the root, in the mode of all
+pub starts-at : (p : Program) (n nodes : ℕ) (mode : PartySet) → mode ≡ all n → p .parties ≡ n → length (p .nodes) ≡ nodes
+    → record { node = nodes - 1; mode = mode; names = noneBound; frames = [] } ≡ start p
+unfolding start
+starts-at p n nodes mode em q len = rw (em, q, len)
+
+-- ---- lists of 0
+pub zeros : (k P : ℕ) → getD {A = ℕ} (replicate k 0) P 0 ≡ 0
+zeros zero P = refl
+zeros (suc k) zero = refl
+zeros (suc k) (suc P) = zeros k P
 
 -- ---- lengths of 0
 pub none-zero : (ls : List ℕ) → ls ≡ noneUsed 0 ls

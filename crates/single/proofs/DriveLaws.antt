@@ -1,37 +1,25 @@
 -- The start of a run: nothing used, the inputs divided, the area prepared. Assumes nothing.
 use mathlib.Core.Path.{_≡_, refl, sym, _∙_, subst}
-use mathlib.Core.List.{List, []}
-use Prim.Native.Nat.{ℕ, zero, suc, _-_, _*_, _≤_}
+use mathlib.Core.List.{List}
+use Prim.Native.Nat.{ℕ, _-_, _*_, _≤_}
 use lib.IntN.{ℤ}
-use lib.ListN.{length, getD, replicate}
+use lib.ListN.{length, replicate}
 use Rattle.parties.specs.Limits.{maxParties}
 use Rattle.parties.specs.Sets.{all}
 use Rattle.parties.specs.declared.sets.PartySet.{PartySet}
-use Rattle.program.specs.Check.{Program}
-use Rattle.rules.specs.Books.{opening, used}
-use Rattle.rules.specs.Moves.{Control, start}
-use Rattle.rules.specs.Names.{noneBound}
+use Rattle.rules.specs.Books.{opening}
+use Rattle.rules.specs.Moves.{Control}
 use Rattle.rules.specs.Single.{going, run, after}
 use Rattle.rules.specs.Lent.{inputsOf}
 use Rattle.area.specs.Table.{Prepared}
 use Rattle.area.proofs.LevelLaws.{fresh}
 use Rattle.ledger.specs.Ledger.{noneUsed}
-use Rattle.ledger.proofs.OpeningLaws.{opening-lengths, opening-records, opening-fits}
+use Rattle.ledger.proofs.OpeningLaws.{starts-at, zeros, opening-lengths, opening-records, opening-fits}
 use Rattle.ledger.specs.Inputs.{Divided, InputsHold}
 use Rattle.single.specs.Steps.{Given, Stands}
 use Rattle.single.specs.Runs.{Finishes, RunsOn, Drives}
 use Rattle.single.specs.declared.runs.Answer.{Answer}
 use Rattle.ledger.proofs.InputLaws.{inputs-start}
-
-zeros : (k P : ℕ) → getD {A = ℕ} (replicate k 0) P 0 ≡ 0
-zeros zero P = refl
-zeros (suc k) zero = refl
-zeros (suc k) (suc P) = zeros k P
-
-starts-at : (p : Program) (n nodes : ℕ) (mode : PartySet) → mode ≡ all n → p .parties ≡ n → length (p .nodes) ≡ nodes
-    → record { node = nodes - 1; mode = mode; names = noneBound; frames = [] } ≡ start p
-unfolding start
-starts-at p n nodes mode em q len = rw (em, q, len)
 
 pub drives-by : (bs : List ℕ) (n nodes room : ℕ) (counts : List ℕ) (is : List ℤ) (budget : ℕ) (a : Answer) (xs ls xs′ ls′ at end ls₁ w₁ : List ℕ) (mode : PartySet)
     → n * room ≤ length xs → n ≤ length ls → Divided counts (replicate 16 0) (replicate 16 0) at end → ls₁ ≡ noneUsed n ls → Prepared bs nodes w₁ → mode ≡ all n

@@ -8,7 +8,8 @@ use lib.ListN.{replicate}
 use borrow.Author.Needs.{needs}
 use Rattle.rules.specs.Lent.{Lent, roomOf}
 use Rattle.ledger.proofs.InputLaws.{counts-fit-is}
-use Rattle.single.proofs.CallLaws.{bounds, call-counts, call-short, call-runs, short-room, short-places, short-work, enough, fit-parts, rooms-within}
+use Rattle.ledger.proofs.LentLaws.{bounds, short-room, short-places, short-work, enough, fit-parts, rooms-within}
+use Rattle.single.proofs.CallLaws.{call-counts, call-short, call-runs}
 use Rattle.single.proofs.runs.run_good.Statement.{statement}
 use Rattle.single.proofs.runs.run_good.Tie as tie
 
@@ -23,15 +24,15 @@ div-room c = omega (arith, bounds _ _ _ (c .before .before .before .before .befo
 
 returns : tie.Need-returns
 returns c = let a = c .before .before .before .before .before .before .before .before .args in
-    call-short (lent (a .program .now) (a .counts .now) (a .inputs .now) (a .bytes .now) (a .lengths .now) (a .work .now)) (a .budget) (a .n) (a .nodes) (c .before .before .before .before .before .before .before .before .pre) (sym (counts-fit-is (a .n) (lent (a .program .now) (a .counts .now) (a .inputs .now) (a .bytes .now) (a .lengths .now) (a .work .now))) ∙ sym (c .before .before .counts-fit .ensures) ∙ c .before .if1 .taken) (short-room (a .n) (lent (a .program .now) (a .counts .now) (a .inputs .now) (a .bytes .now) (a .lengths .now) (a .work .now)) (c .if2 .taken))
+    call-short (lent (a .program .now) (a .counts .now) (a .inputs .now) (a .bytes .now) (a .lengths .now) (a .work .now)) (a .budget) (a .n) (a .nodes) (c .before .before .before .before .before .before .before .before .pre) (sym (counts-fit-is (a .n) (lent (a .program .now) (a .counts .now) (a .inputs .now) (a .bytes .now) (a .lengths .now) (a .work .now))) ∙ sym (c .before .before .counts-fit .ensures) ∙ c .before .if1 .taken) (short-room (a .n) 1 (lent (a .program .now) (a .counts .now) (a .inputs .now) (a .bytes .now) (a .lengths .now) (a .work .now)) (c .if2 .taken))
 
 returns-2 : tie.Need-returns-2
 returns-2 c = let a = c .before .before .before .before .before .before .before .before .before .args in
-    call-short (lent (a .program .now) (a .counts .now) (a .inputs .now) (a .bytes .now) (a .lengths .now) (a .work .now)) (a .budget) (a .n) (a .nodes) (c .before .before .before .before .before .before .before .before .before .pre) (sym (counts-fit-is (a .n) (lent (a .program .now) (a .counts .now) (a .inputs .now) (a .bytes .now) (a .lengths .now) (a .work .now))) ∙ sym (c .before .before .before .counts-fit .ensures) ∙ c .before .before .if1 .taken) (short-places (a .n) (lent (a .program .now) (a .counts .now) (a .inputs .now) (a .bytes .now) (a .lengths .now) (a .work .now)) (c .before .if2 .left) (c .if3 .taken))
+    call-short (lent (a .program .now) (a .counts .now) (a .inputs .now) (a .bytes .now) (a .lengths .now) (a .work .now)) (a .budget) (a .n) (a .nodes) (c .before .before .before .before .before .before .before .before .before .pre) (sym (counts-fit-is (a .n) (lent (a .program .now) (a .counts .now) (a .inputs .now) (a .bytes .now) (a .lengths .now) (a .work .now))) ∙ sym (c .before .before .before .counts-fit .ensures) ∙ c .before .before .if1 .taken) (short-places (a .n) 1 (lent (a .program .now) (a .counts .now) (a .inputs .now) (a .bytes .now) (a .lengths .now) (a .work .now)) (c .before .if2 .left) (c .if3 .taken))
 
 returns-3 : tie.Need-returns-3
 returns-3 c = let a = c .before .before .before .before .before .before .before .before .before .before .args in
-    call-short (lent (a .program .now) (a .counts .now) (a .inputs .now) (a .bytes .now) (a .lengths .now) (a .work .now)) (a .budget) (a .n) (a .nodes) (c .before .before .before .before .before .before .before .before .before .before .pre) (sym (counts-fit-is (a .n) (lent (a .program .now) (a .counts .now) (a .inputs .now) (a .bytes .now) (a .lengths .now) (a .work .now))) ∙ sym (c .before .before .before .before .counts-fit .ensures) ∙ c .before .before .before .if1 .taken) (short-work (a .n) (lent (a .program .now) (a .counts .now) (a .inputs .now) (a .bytes .now) (a .lengths .now) (a .work .now)) (c .before .before .if2 .left) (c .before .if3 .left) (c .if4 .taken))
+    call-short (lent (a .program .now) (a .counts .now) (a .inputs .now) (a .bytes .now) (a .lengths .now) (a .work .now)) (a .budget) (a .n) (a .nodes) (c .before .before .before .before .before .before .before .before .before .before .pre) (sym (counts-fit-is (a .n) (lent (a .program .now) (a .counts .now) (a .inputs .now) (a .bytes .now) (a .lengths .now) (a .work .now))) ∙ sym (c .before .before .before .before .counts-fit .ensures) ∙ c .before .before .before .if1 .taken) (short-work (a .n) 1 (lent (a .program .now) (a .counts .now) (a .inputs .now) (a .bytes .now) (a .lengths .now) (a .work .now)) (c .before .before .if2 .left) (c .before .if3 .left) (c .if4 .taken))
 
 drive-requires : tie.Need-drive-requires
 drive-requires c κs = let a = c .before .before .before .before .before .before .before .before .before .before .before .before .before .args in
@@ -54,7 +55,7 @@ same-length-3 c = search needs
 returns-4 : tie.Need-returns-4
 unfolding roomOf
 returns-4 c = let a = c .before .before .before .before .before .before .before .before .before .before .before .before .before .before .before .before .before .before .before .before .before .before .before .before .args in
-    call-runs (lent (a .program .now) (a .counts .now) (a .inputs .now) (a .bytes .now) (a .lengths .now) (a .work .now)) (a .budget) (a .n) (a .nodes) (c .before .before .before .before .before .before .before .before .before .before .before .before .before .before .before .before .before .before .before .before .before .before .before .before .pre) _ _ _ _ (sym (counts-fit-is (a .n) (lent (a .program .now) (a .counts .now) (a .inputs .now) (a .bytes .now) (a .lengths .now) (a .work .now))) ∙ sym (c .before .before .before .before .before .before .before .before .before .before .before .before .before .before .before .before .before .before .counts-fit .ensures) ∙ c .before .before .before .before .before .before .before .before .before .before .before .before .before .before .before .before .before .if1 .taken) (enough (a .n) (lent (a .program .now) (a .counts .now) (a .inputs .now) (a .bytes .now) (a .lengths .now) (a .work .now)) (c .before .before .before .before .before .before .before .before .before .before .before .before .before .before .before .before .if2 .left) (c .before .before .before .before .before .before .before .before .before .before .before .before .before .before .before .if3 .left) (c .before .before .before .before .before .before .before .before .before .before .before .before .before .before .if4 .left)) (c .before .before .before .before .before .before .before .before .before .before .before .before .before .before .before .before .if2 .left) (c .before .before .before .before .before .before .before .before .before .before .drive .ensures) (c .before .before .zero .ensures ∙ ap (λ (i : ℕ). replicate i 0) (c .before .before .before .before .before .before .before .before .before .before .drive .kept .1 .1 .1 .1 .1 .1 .1 .1 .1 .0))
+    call-runs (lent (a .program .now) (a .counts .now) (a .inputs .now) (a .bytes .now) (a .lengths .now) (a .work .now)) (a .budget) (a .n) (a .nodes) (c .before .before .before .before .before .before .before .before .before .before .before .before .before .before .before .before .before .before .before .before .before .before .before .before .pre) _ _ _ _ (sym (counts-fit-is (a .n) (lent (a .program .now) (a .counts .now) (a .inputs .now) (a .bytes .now) (a .lengths .now) (a .work .now))) ∙ sym (c .before .before .before .before .before .before .before .before .before .before .before .before .before .before .before .before .before .before .counts-fit .ensures) ∙ c .before .before .before .before .before .before .before .before .before .before .before .before .before .before .before .before .before .if1 .taken) (enough (a .n) 1 (lent (a .program .now) (a .counts .now) (a .inputs .now) (a .bytes .now) (a .lengths .now) (a .work .now)) (c .before .before .before .before .before .before .before .before .before .before .before .before .before .before .before .before .if2 .left) (c .before .before .before .before .before .before .before .before .before .before .before .before .before .before .before .if3 .left) (c .before .before .before .before .before .before .before .before .before .before .before .before .before .before .if4 .left)) (c .before .before .before .before .before .before .before .before .before .before .before .before .before .before .before .before .if2 .left) (c .before .before .before .before .before .before .before .before .before .before .drive .ensures) (c .before .before .zero .ensures ∙ ap (λ (i : ℕ). replicate i 0) (c .before .before .before .before .before .before .before .before .before .before .drive .kept .1 .1 .1 .1 .1 .1 .1 .1 .1 .0))
 
 returns-5 : tie.Need-returns-5
 returns-5 c = let a = c .before .before .before .before .before .before .before .args in

@@ -1,0 +1,5 @@
+pub mod EndsLaws
+pub mod TurnLaws
+pub mod DriveLaws
+pub mod CallLaws
+pub mod OneAnswer

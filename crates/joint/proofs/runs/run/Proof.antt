@@ -1,0 +1,50 @@
+-- `joint::runs::run` meets its contract. Assumes nothing.
+use mathlib.Core.Path.{sym, ap, _∙_}
+use borrow.Author.Needs.{needs}
+use Rattle.program.specs.Answer.{told}
+use Rattle.program.specs.declared.check.Verdict.{Verdict}
+use Rattle.joint.proofs.CallLaws.{call-bad}
+use Rattle.joint.proofs.runs.run.Statement.{statement}
+use Rattle.joint.proofs.runs.run.Tie as tie
+
+check-requires : tie.Need-check-requires
+check-requires c κs = search needs
+
+enum-known-place : tie.Need-enum-known-place
+enum-known-place c = search needs
+
+enum-known-n : tie.Need-enum-known-n
+enum-known-n c = search needs
+
+run-good-requires : tie.Need-run-good-requires
+run-good-requires c κs = sym (c .before .before .before .before .before .before .check .ensures) ∙ ap (λ (v : Verdict). told v) (c .before .before .before .before .n .given .1)
+
+returns : tie.Need-returns
+returns c = let a = c .before .before .before .before .before .before .before .before .before .before .args in
+    call-bad (record { program = a .program .now; counts = a .counts .now; inputs = a .inputs .now; records = a .bytes .now; lengths = a .lengths .now; work = a .work .now }) (a .turns .now) _ (sym (c .before .before .before .check .ensures) ∙ ap (λ (v : Verdict). told v) (c .before .place .given .1))
+
+same-length : tie.Need-same-length
+same-length c = search needs
+
+same-length-2 : tie.Need-same-length-2
+same-length-2 c = search needs
+
+same-length-3 : tie.Need-same-length-3
+same-length-3 c = search needs
+
+returns-2 : tie.Need-returns-2
+returns-2 c = search needs
+
+pub run-spec : {M : Type 1} → statement M
+run-spec =
+    tie.close
+    (tie.spec
+    check-requires
+    enum-known-place
+    enum-known-n
+    run-good-requires
+    returns
+    same-length
+    same-length-2
+    same-length-3
+    returns-2)
