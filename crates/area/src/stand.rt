@@ -4,6 +4,9 @@ use parties::limits::Depth;
 use parties::sets::PartySet;
 use values::value::Value;
 
+// The bytes of one party's area.
+pub const AREA: usize = 16384;
+
 pub struct Stand {
     pub node: u16,
     pub mode: PartySet,

@@ -7,8 +7,8 @@ ghost use Rattle.rules.specs.Calls.{badTurnFrom};
 ghost use Rattle.rules.specs.Lent.{areaSize};
 ghost use Rattle.joint.specs.Ends.{found, finishedAt, OpensOne, OpensAll, Finishes};
 use area::seats::Seat;
+use area::stand::AREA;
 use area::stand::Stand;
-use sites::places::AREA;
 
 pub enum BadTurn {
     None,

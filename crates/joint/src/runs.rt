@@ -10,13 +10,13 @@ ghost use mathlib.Core.Option.{none};
 ghost use Rattle.sites.specs.Turns.{once};
 ghost use Rattle.joint.specs.Runs.{AllBelow, RunsTurns, Drives, Is};
 use crate::ends::BadTurn;
+use area::stand::AREA;
 use area::stand::Stand;
 use ledger::inputs::counts_fit;
 use parties::limits::Depth;
 use parties::sets::PartySet;
 use program::check::Verdict;
 use records::events::Event;
-use sites::places::AREA;
 
 pub enum Answer {
     // the refusal, and its place

@@ -8,6 +8,7 @@ ghost use Rattle.rules.specs.Lent.{areaSize, sum};
 ghost use Rattle.rules.specs.Calls.{singleCall};
 ghost use Rattle.single.specs.Runs.{RunsOn, Drives, Is};
 use crate::steps::Stepped;
+use area::stand::AREA;
 use area::stand::Stand;
 use ledger::inputs::counts_fit;
 use parties::limits::Depth;
@@ -142,7 +143,7 @@ fn run_good(
         if lengths.len() < parties {
             return Answer::Refused(refusals::TOO_LITTLE_LENT, 0);
         }
-        if work.len() < 16384 {
+        if work.len() < AREA {
             return Answer::Refused(refusals::TOO_LITTLE_LENT, 0);
         }
         let answer = drive(

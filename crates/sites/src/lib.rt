@@ -1,5 +1,4 @@
 // All sites, side by side in what was lent.
-pub mod places; // places.rt: how much each site has of the working area
 pub mod meets; // meets.rt: who is at a meeting, what they bring, and whether they agree
 pub mod concludes; // concludes.rt: all members take part, or all stop
 pub mod turns; // turns.rt: a turn

@@ -4,7 +4,7 @@ ghost use lib.ListN.{length};
 ghost use Rattle.parties.specs.Limits.{maxParties};
 ghost use Rattle.rules.specs.Lent.{areaSize};
 ghost use Rattle.sites.specs.Meets.{Brings, Gathers, MemberAgrees, AllAgree, Agreed};
-use crate::places::AREA;
+use area::stand::AREA;
 use parties::limits::Party;
 use parties::sets::PartySet;
 use rules::effects::Meeting;
