@@ -47,6 +47,7 @@ use Rattle.sites.specs.Concludes.{ConcludesAll}
 use Rattle.sites.specs.Turns.{Meets, takenBy, ActsAlone, Turns}
 use Rattle.sites.specs.declared.meets.Gathered.{Gathered}
 use Rattle.sites.specs.declared.meets.Gathered.the-variants.{Missing, All}
+use Rattle.sites.specs.declared.concludes.Outcome.{Outcome}
 use Rattle.sites.specs.declared.concludes.Outcome.the-variants.{Joins, Parts}
 use Rattle.sites.proofs.RowLaws.{back, row-length}
 use Rattle.sites.proofs.StandLaws.{stands-length, stands-sits, stands-long, stands-changed}
@@ -179,11 +180,14 @@ module _ (bs : List ℕ) (nodes e : ℕ) (m : PartySet) (mt : Meeting) (n room :
         ∙ ap (λ (x : Offer). concluded (settingOf (G .program) room) m mt x (at G J st) J) brings
         ∙ concluded-by (settingOf (G .program) room) m mt i h (at G J st) J n b (G .parties) (agrees .comes (sitting G J st))
 
-    pub meets-join : b ≡ true → ConcludesAll bs nodes (Joins i) m n room bytes lengths work bytes′ lengths′ work′ → Meets bs nodes e m mt n room true bytes lengths work bytes′ lengths′ work′
-    meets-join q k = record { comes = λ G J st. rw (agreed-is G J st, q) (k .comes G J st, refl) }
-
-    pub meets-part : b ≡ false → ConcludesAll bs nodes Parts m n room bytes lengths work bytes′ lengths′ work′ → Meets bs nodes e m mt n room true bytes lengths work bytes′ lengths′ work′
-    meets-part q k = record { comes = λ G J st. rw (agreed-is G J st, q) (k .comes G J st, refl) }
+    pub meets-done : (outcome : Outcome) → outcome ≡ cond b (Joins i) Parts → ConcludesAll bs nodes outcome m n room bytes lengths work bytes′ lengths′ work′
+        → Meets bs nodes e m mt n room true bytes lengths work bytes′ lengths′ work′
+    meets-done outcome q k = record { comes = λ G J st. rw (agreed-is G J st) (go b q G J st, refl) }
+      where
+        go : (x : Bool) → outcome ≡ cond x (Joins i) Parts → (G : Given bs nodes room n) (J : Sites) → Stands G J bytes lengths work
+            → Stands G (cond x (putAll m (joins (settingOf (G .program) room) i) J) (putAll m parts J)) bytes′ lengths′ work′
+        go true e G J st = (rw e at k) .comes G J st
+        go false e G J st = (rw e at k) .comes G J st
 
 -- ---- the turn
 over-idle : (S : Setting) (P : ℕ) (seat : Seat) (w : List ℕ) (b : Book) (J : Sites) → NotRunning seat → turnAt S P (seated seat w b) J ≡ idle J

@@ -1,5 +1,6 @@
 // A turn: the site steps, or stops by its own check, or nothing changes.
 ghost use mathlib.Core.Path.{_≡_};
+ghost use mathlib.Core.Bool.{cond};
 ghost use Prim.Native.Nat.{_*_, _+_, _≤_, _<_};
 ghost use lib.ListN.{length};
 ghost use Rattle.parties.specs.Limits.{maxParties, maxFrames};
@@ -17,6 +18,17 @@ use rules::effects::Effect;
 use rules::effects::Meeting;
 use rules::effects::Offer;
 use site::own::Own;
+
+// What a meeting about the number comes to.
+fn outcome_of(agreed: bool, number: i32) -> Outcome
+    ensures { λ r. ⌜ r ≡ cond agreed (Outcome.Joins number) Outcome.Parts ⌝ }
+{
+    if agreed {
+        Outcome::Joins(number)
+    } else {
+        Outcome::Parts
+    }
+}
 
 // All of the mode m meet at the node e, if they can: whether anything was done.
 fn meet(
@@ -41,7 +53,7 @@ fn meet(
     let Offer::Secret(number, holders) = offer else {
         return false;
     };
-    if crate::meets::agreed(
+    let agreed = crate::meets::agreed(
         program,
         nodes,
         e,
@@ -53,31 +65,9 @@ fn meet(
         holders,
         lengths,
         work,
-    ) {
-        crate::concludes::conclude(
-            program,
-            nodes,
-            Outcome::Joins(number),
-            m,
-            n,
-            room,
-            bytes,
-            lengths,
-            work,
-        );
-        return true;
-    }
-    crate::concludes::conclude(
-        program,
-        nodes,
-        Outcome::Parts,
-        m,
-        n,
-        room,
-        bytes,
-        lengths,
-        work,
     );
+    let outcome = outcome_of(agreed, number);
+    crate::concludes::conclude(program, nodes, outcome, m, n, room, bytes, lengths, work);
     true
 }
 

@@ -1,7 +1,7 @@
 -- `sites::turns::meet` meets its contract. Assumes nothing.
 use native.Mathlib.Omega.{arith}
 use Rattle.numbers.proofs.IntegerLaws.{read32}
-use Rattle.sites.proofs.TurnLaws.{meets-missing, meets-empty, meets-join, meets-part}
+use Rattle.sites.proofs.TurnLaws.{meets-missing, meets-empty, meets-done}
 use borrow.Author.Needs.{needs}
 use Rattle.sites.proofs.turns.meet.Statement.{statement}
 use Rattle.sites.proofs.turns.meet.Tie as tie
@@ -44,6 +44,9 @@ returns-2 c = let a = c .before .before .before .before .before .before .before 
 agreed-requires : tie.Need-agreed-requires
 agreed-requires c κs = search needs
 
+outcome-of-requires : tie.Need-outcome-of-requires
+outcome-of-requires c κs = search needs
+
 conclude-requires : tie.Need-conclude-requires
 conclude-requires c κs = search needs
 
@@ -59,26 +62,9 @@ same-length-7 c = search needs
 returns-3 : tie.Need-returns-3
 returns-3 c = let a = c .before .before .before .before .before .before .before .before .before .before .before .before .before .before .before .before .before .before .before .before .before .before .before .before .before .before .before .args in
     let same = read32 (c .before .before .before .before .before .before .before .before .before .before .before .before .before .before .before .offer2 .given .0 .0) (record { sfits = omega arith }) in
-    meets-join (a .program .now) (a .nodes) (a .e) (a .m) (a .mt) (a .n) (a .room) (a .bytes .now) (a .lengths .now) (a .work .now) (c .before .before .before .before .before .before .before .before .before .before .before .before .before .before .before .before .before .before .before .before .gather .result) (c .before .before .before .before .before .before .before .before .before .before .before .before .before .before .before .before .before .before .before .before .gather .ensures)
-    _ (c .before .before .before .before .before .before .before .before .before .before .before .before .before .before .before .offer2 .given .0 .0) _ (c .before .before .before .before .before .before .before .before .before .before .before .before .before .before .before .before .before .before .offer .given .1) (c .before .before .before .before .before .before .before .before .before .before .before .before .before .before .before .offer2 .given .1) (c .before .before .before .before .before .before .before .before .before .before .before .agreed .result) (rw same at (c .before .before .before .before .before .before .before .before .before .before .before .agreed .ensures)) _ _ _ (c .before .before .before .before .before .before .before .before .before .before .if1 .taken) (rw same at (c .before .before .before .before .before .before .conclude .ensures))
-
-conclude-requires-2 : tie.Need-conclude-requires-2
-conclude-requires-2 c κs = search needs
-
-same-length-8 : tie.Need-same-length-8
-same-length-8 c = search needs
-
-same-length-9 : tie.Need-same-length-9
-same-length-9 c = search needs
-
-same-length-10 : tie.Need-same-length-10
-same-length-10 c = search needs
-
-returns-4 : tie.Need-returns-4
-returns-4 c = let a = c .before .before .before .before .before .before .before .before .before .before .before .before .before .before .before .before .before .before .before .before .before .before .before .before .before .before .before .args in
-    let same = read32 (c .before .before .before .before .before .before .before .before .before .before .before .before .before .before .before .offer2 .given .0 .0) (record { sfits = omega arith }) in
-    meets-part (a .program .now) (a .nodes) (a .e) (a .m) (a .mt) (a .n) (a .room) (a .bytes .now) (a .lengths .now) (a .work .now) (c .before .before .before .before .before .before .before .before .before .before .before .before .before .before .before .before .before .before .before .before .gather .result) (c .before .before .before .before .before .before .before .before .before .before .before .before .before .before .before .before .before .before .before .before .gather .ensures)
-    _ (c .before .before .before .before .before .before .before .before .before .before .before .before .before .before .before .offer2 .given .0 .0) _ (c .before .before .before .before .before .before .before .before .before .before .before .before .before .before .before .before .before .before .offer .given .1) (c .before .before .before .before .before .before .before .before .before .before .before .before .before .before .before .offer2 .given .1) (c .before .before .before .before .before .before .before .before .before .before .before .agreed .result) (rw same at (c .before .before .before .before .before .before .before .before .before .before .before .agreed .ensures)) _ _ _ (c .before .before .before .before .before .before .before .before .before .before .if1 .left) (c .before .before .before .before .before .before .conclude2 .ensures)
+    meets-done (a .program .now) (a .nodes) (a .e) (a .m) (a .mt) (a .n) (a .room) (a .bytes .now) (a .lengths .now) (a .work .now) (c .before .before .before .before .before .before .before .before .before .before .before .before .before .before .before .before .before .before .before .before .gather .result) (c .before .before .before .before .before .before .before .before .before .before .before .before .before .before .before .before .before .before .before .before .gather .ensures)
+    _ (c .before .before .before .before .before .before .before .before .before .before .before .before .before .before .before .offer2 .given .0 .0) _ (c .before .before .before .before .before .before .before .before .before .before .before .before .before .before .before .before .before .before .offer .given .1) (c .before .before .before .before .before .before .before .before .before .before .before .before .before .before .before .offer2 .given .1) (c .before .before .before .before .before .before .before .before .before .before .before .agreed .result) (rw same at (c .before .before .before .before .before .before .before .before .before .before .before .agreed .ensures)) _ _ _
+    (c .before .before .before .before .before .before .before .before .before .before .outcome-of .result) (rw same at (c .before .before .before .before .before .before .before .before .before .before .outcome-of .ensures)) (c .before .before .before .before .before .before .conclude .ensures)
 
 pub meet-spec : {M : Type 1} → statement M
 meet-spec =
@@ -96,13 +82,9 @@ meet-spec =
     same-length-4
     returns-2
     agreed-requires
+    outcome-of-requires
     conclude-requires
     same-length-5
     same-length-6
     same-length-7
-    returns-3
-    conclude-requires-2
-    same-length-8
-    same-length-9
-    same-length-10
-    returns-4)
+    returns-3)
