@@ -21,7 +21,7 @@ use Rattle.ledger.specs.Ledger.{noneUsed}
 use Rattle.ledger.specs.Inputs.{Divided, InputsHold}
 use Rattle.ledger.proofs.InputLaws.{inputs-start}
 use Rattle.ledger.proofs.OpeningLaws.{starts-at, zeros, opening-lengths, opening-records, opening-fits}
-use Rattle.sites.specs.Places.{settingOf, Given, Stands, InputsStand}
+use Rattle.meets.specs.Places.{settingOf, Given, Stands, InputsStand}
 use Rattle.joint.specs.Ends.{OpensAll}
 use Rattle.joint.specs.Ends as Ends
 use Rattle.joint.specs.Runs.{told, RunsTurns, Finishes, Drives}

@@ -25,7 +25,7 @@ use Rattle.area.specs.declared.seats.Seat.{Seat}
 use Rattle.area.specs.declared.seats.Seat.the-variants.{Running, Finished, Stopped}
 use Rattle.area.proofs.LevelLaws.{names-fresh}
 use Rattle.area.proofs.TableLaws.{places-kept}
-use Rattle.sites.specs.Places.{areaOf}
+use Rattle.meets.specs.Places.{areaOf}
 use Rattle.sites.proofs.RowLaws.{back, row-own, row-other}
 use Rattle.joint.specs.Ends.{finishedSeat, finishedAt, OpensOne, OpensAll, Finishes}
 

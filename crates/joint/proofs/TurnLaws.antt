@@ -15,7 +15,7 @@ use Rattle.program.specs.ScanLaws.{both}
 use Rattle.rules.specs.Calls.{maxTurns, badTurnFrom}
 use Rattle.rules.specs.Joint.{Sites, Turned, turn, also, runTurns}
 use Rattle.rules.specs.Single.{Setting}
-use Rattle.sites.specs.Places.{settingOf, Given, Stands, InputsStand}
+use Rattle.meets.specs.Places.{settingOf, Given, Stands, InputsStand}
 use Rattle.sites.specs.Turns.{Turns, once}
 use Rattle.joint.specs.Runs.{AllBelow, RunsTurns}
 

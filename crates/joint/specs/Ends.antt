@@ -12,7 +12,7 @@ use Rattle.area.specs.Seats.{seatAt, siteOf}
 use Rattle.area.specs.declared.stand.Stand.{Stand}
 use Rattle.area.specs.declared.seats.Seat.{Seat}
 use Rattle.area.specs.declared.seats.Seat.the-variants.{Running, Finished, Stopped}
-use Rattle.sites.specs.Places.{areaOf}
+use Rattle.meets.specs.Places.{areaOf}
 use Rattle.joint.specs.declared.ends.BadTurn.{BadTurn}
 use Rattle.joint.specs.declared.ends.BadTurn.the-variants.{None, At}
 

@@ -11,7 +11,7 @@ use Rattle.rules.specs.Joint.{Sites, Turned, runTurns, startAll, allFinished, b
 use Rattle.rules.specs.Lent.{Lent, Left, inputsOf}
 use Rattle.rules.specs.Calls.{JointAnswer, refused, complete, stillOpen}
 use Rattle.ledger.specs.Ledger.{Holds}
-use Rattle.sites.specs.Places.{settingOf, Given, Stands, InputsStand}
+use Rattle.meets.specs.Places.{settingOf, Given, Stands, InputsStand}
 use Rattle.joint.specs.declared.runs.Answer.{Answer}
 use Rattle.joint.specs.declared.runs.Answer.the-variants as Answer′
 

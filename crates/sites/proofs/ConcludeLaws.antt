@@ -36,7 +36,7 @@ use Rattle.site.specs.Acts.{Fits, Took, Takes, Settles}
 use Rattle.site.specs.declared.own.Own.{Own}
 use Rattle.site.specs.declared.own.Own.the-variants.{Acts, Attends}
 use Rattle.site.proofs.AttendLaws.{NotRunning}
-use Rattle.sites.specs.Places.{row, areaOf, settingOf, Given, Stands}
+use Rattle.meets.specs.Places.{row, areaOf, settingOf, Given, Stands}
 use Rattle.sites.specs.Concludes.{concluding, TakesPart, ConcludesOne, ConcludesAll}
 use Rattle.sites.specs.declared.concludes.Outcome.{Outcome}
 use Rattle.sites.specs.declared.concludes.Outcome.the-variants.{Joins, Parts}

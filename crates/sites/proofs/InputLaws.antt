@@ -32,7 +32,7 @@ use Rattle.rules.specs.declared.effects.Effect.the-variants.{Refuse, Goes, Read
 use Rattle.ledger.specs.Inputs.{headOf}
 use Rattle.ledger.specs.declared.inputs.Taken.{Taken}
 use Rattle.site.specs.Own.{acted}
-use Rattle.sites.specs.Places.{InputsOf, InputsStand}
+use Rattle.meets.specs.Places.{InputsOf, InputsStand}
 use Rattle.sites.specs.Turns.{takenBy}
 
 -- a site that runs has these inputs to come

@@ -9,7 +9,7 @@ use lib.Seq.{sets, sets-eq, length-sets, ext-getD, getD-take, getD-drop, drop-at
 use Rattle.numbers.proofs.StretchLaws.{sets-before, sets-after}
 use Rattle.ledger.proofs.PartLaws.{rows}
 use Rattle.area.proofs.MoveLaws.{part-back}
-use Rattle.sites.specs.Places.{row}
+use Rattle.meets.specs.Places.{row}
 
 -- a list with ys in the place of the row P that was lent
 abbrev pub back : (size P : ℕ) → (xs ys : List ℕ) → List ℕ

@@ -16,7 +16,7 @@ use Rattle.ledger.proofs.WriteLaws.{wrote}
 use Rattle.area.specs.Levels.{tableSize}
 use Rattle.area.proofs.TableLaws.{places-kept}
 use Rattle.site.specs.Acts.{Fits, Took}
-use Rattle.sites.specs.Places.{row, areaOf, Sits, Given, Stands}
+use Rattle.meets.specs.Places.{row, areaOf, Sits, Given, Stands}
 use Rattle.sites.proofs.RowLaws.{back, row-length, row-own, row-other}
 
 fits-used : (R : ℕ) (s : Site) → Fits R s → used (bookOf s) ≤ R

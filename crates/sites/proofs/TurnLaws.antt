@@ -41,12 +41,12 @@ use Rattle.site.specs.Own.{acted, Alone, Owns}
 use Rattle.site.specs.declared.own.Own as OwnOf
 use Rattle.site.specs.declared.own.Own.the-variants.{Acts, Attends}
 use Rattle.site.proofs.AttendLaws.{NotRunning}
-use Rattle.sites.specs.Places.{row, areaOf, settingOf, Given, Stands, InputsOf}
-use Rattle.sites.specs.Meets.{gathered, Sitting, Gathers, Agreed}
+use Rattle.meets.specs.Places.{row, areaOf, settingOf, Given, Stands, InputsOf}
+use Rattle.meets.specs.Meets.{gathered, Sitting, Gathers, Agreed}
 use Rattle.sites.specs.Concludes.{ConcludesAll}
 use Rattle.sites.specs.Turns.{Meets, takenBy, ActsAlone, Turns}
-use Rattle.sites.specs.declared.meets.Gathered.{Gathered}
-use Rattle.sites.specs.declared.meets.Gathered.the-variants.{Missing, All}
+use Rattle.meets.specs.declared.present.Gathered.{Gathered}
+use Rattle.meets.specs.declared.present.Gathered.the-variants.{Missing, All}
 use Rattle.sites.specs.declared.concludes.Outcome.{Outcome}
 use Rattle.sites.specs.declared.concludes.Outcome.the-variants.{Joins, Parts}
 use Rattle.sites.proofs.RowLaws.{back, row-length}

@@ -18,7 +18,7 @@ use Rattle.area.specs.Seats.{seatAt}
 use Rattle.area.specs.declared.stand.Stand.{Stand}
 use Rattle.area.specs.declared.seats.Seat.the-variants.{Running}
 use Rattle.site.specs.Acts.{Took}
-use Rattle.sites.specs.Places.{settingOf, Given, Stands}
+use Rattle.meets.specs.Places.{settingOf, Given, Stands}
 use Rattle.sites.specs.declared.concludes.Outcome.{Outcome}
 use Rattle.sites.specs.declared.concludes.Outcome.the-variants.{Joins, Parts}
 

@@ -1,4 +1,2 @@
-pub mod Places
-pub mod Meets
 pub mod Concludes
 pub mod Turns

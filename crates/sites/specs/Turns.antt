@@ -17,7 +17,7 @@ use Rattle.area.specs.Levels.{controlOf}
 use Rattle.area.specs.declared.stand.Stand.{Stand}
 use Rattle.site.specs.Own.{acted, Alone}
 use Rattle.site.specs.declared.own.Own.the-variants.{Acts}
-use Rattle.sites.specs.Places.{areaOf, settingOf, Given, Stands, InputsStand}
+use Rattle.meets.specs.Places.{areaOf, settingOf, Given, Stands, InputsStand}
 
 -- whether a turn counts, as a number
 abbrev pub once : Bool → ℕ

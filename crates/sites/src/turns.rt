@@ -7,11 +7,11 @@ ghost use Rattle.parties.specs.Limits.{maxParties, maxFrames};
 ghost use Rattle.rules.specs.Lent.{areaSize};
 ghost use Rattle.sites.specs.Turns.{once, takenBy, Meets, ActsAlone, Turns};
 use crate::concludes::Outcome;
-use crate::meets::Gathered;
 use area::seats::Seat;
 use area::stand::AREA;
 use area::stand::Stand;
 use ledger::inputs::Taken;
+use meets::present::Gathered;
 use parties::limits::Party;
 use parties::sets::PartySet;
 use rules::effects::Effect;
@@ -46,14 +46,14 @@ fn meet(
     requires { ⌜ (n ≤ maxParties) × (n * room ≤ length (now bytes)) × (n ≤ length (now lengths)) × (n * areaSize ≤ length (now work)) ⌝ }
     ensures { λ r. ⌜ Meets (now (program .entry)) nodes e m mt n room r (now (bytes .entry)) (now (lengths .entry)) (now (work .entry)) (now (bytes .exit)) (now (lengths .exit)) (now (work .exit)) ⌝ }
 {
-    let Gathered::All(offer) = crate::meets::gather(program, nodes, e, m, n, room, lengths, work)
+    let Gathered::All(offer) = meets::present::gather(program, nodes, e, m, n, room, lengths, work)
     else {
         return false;
     };
     let Offer::Secret(number, holders) = offer else {
         return false;
     };
-    let agreed = crate::meets::agreed(
+    let agreed = meets::present::agreed(
         program,
         nodes,
         e,

@@ -5,7 +5,7 @@ use borrow.Author.Tests.{not-true, not-false}
 use Rattle.rules.specs.Lent.{areaSize}
 use Rattle.area.specs.Seats.{DeepSeat}
 use Rattle.area.proofs.SeatLaws.{seat-deep}
-use Rattle.sites.specs.Places.{areaOf}
+use Rattle.meets.specs.Places.{areaOf}
 use Rattle.sites.proofs.RowLaws.{row-length}
 use Rattle.sites.proofs.ConcludeLaws.{no-member, member-over, member-runs}
 use borrow.Author.Needs.{needs}

@@ -5,7 +5,7 @@ use Rattle.rules.specs.Lent.{areaSize}
 use Rattle.ledger.proofs.PartLaws.{rows}
 use Rattle.area.specs.Seats.{DeepSeat}
 use Rattle.area.proofs.SeatLaws.{seat-deep}
-use Rattle.sites.specs.Places.{areaOf}
+use Rattle.meets.specs.Places.{areaOf}
 use Rattle.sites.proofs.RowLaws.{row-length}
 use Rattle.sites.proofs.TurnLaws.{turn-over, turn-meets, turn-acts}
 use borrow.Author.Needs.{needs}

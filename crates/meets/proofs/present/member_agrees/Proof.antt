@@ -1,4 +1,4 @@
--- `sites::meets::member_agrees` meets its contract. Assumes nothing.
+-- `meets::present::member_agrees` meets its contract. Assumes nothing.
 use mir.Syntax.{w32}
 use mir.Val.{toZ, ofZ}
 use Rattle.numbers.proofs.IntegerLaws.{read32}
@@ -6,10 +6,10 @@ use mathlib.Core.Path.{_≡_, sym, _∙_}
 use mathlib.Core.Bool.{true}
 use borrow.Author.Tests.{not-true, not-false}
 use Rattle.parties.specs.Sets.{member}
-use Rattle.sites.proofs.MeetLaws.{agrees-out, agrees-in}
+use Rattle.meets.proofs.MeetLaws.{agrees-out, agrees-in}
 use borrow.Author.Needs.{needs}
-use Rattle.sites.proofs.meets.member_agrees.Statement.{statement}
-use Rattle.sites.proofs.meets.member_agrees.Tie as tie
+use Rattle.meets.proofs.present.member_agrees.Statement.{statement}
+use Rattle.meets.proofs.present.member_agrees.Tie as tie
 
 has-requires : tie.Need-has-requires
 has-requires c κs = search needs

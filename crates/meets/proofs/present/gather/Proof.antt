@@ -1,11 +1,11 @@
--- `sites::meets::gather` meets its contract. Assumes nothing.
+-- `meets::present::gather` meets its contract. Assumes nothing.
 use mathlib.Core.Path.{_≡_}
 use Prim.Native.Nat.{_≤_, _-_}
 use native.Mathlib.Omega.{arith}
 use borrow.Author.Needs.{needs}
-use Rattle.sites.proofs.MeetLaws.{Gathering, gather-none, gather-all, gather-more, gather-missing}
-use Rattle.sites.proofs.meets.gather.Statement.{statement}
-use Rattle.sites.proofs.meets.gather.Tie as tie
+use Rattle.meets.proofs.MeetLaws.{Gathering, gather-none, gather-all, gather-more, gather-missing}
+use Rattle.meets.proofs.present.gather.Statement.{statement}
+use Rattle.meets.proofs.present.gather.Tie as tie
 
 abbrev Inv-loop : tie.InvT-loop
 Inv-loop program nodes e m n room lengths work brought₀ p₀ brought p = (p ≤ n) × Gathering program nodes e m n room lengths work p brought

@@ -3,7 +3,7 @@ ghost use Prim.Native.Nat.{_*_, _+_, _≤_, _<_};
 ghost use lib.ListN.{length};
 ghost use Rattle.parties.specs.Limits.{maxParties};
 ghost use Rattle.rules.specs.Lent.{areaSize};
-ghost use Rattle.sites.specs.Meets.{Brings, Gathers, MemberAgrees, AllAgree, Agreed};
+ghost use Rattle.meets.specs.Meets.{Brings, Gathers, MemberAgrees, AllAgree, Agreed};
 use area::stand::AREA;
 use parties::limits::Party;
 use parties::sets::PartySet;

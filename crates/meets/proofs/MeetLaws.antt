@@ -21,10 +21,10 @@ use Rattle.rules.specs.declared.effects.Offer.the-variants.{Empty}
 use Rattle.ledger.proofs.AllLaws.{passes, all-none, all-more, all-lack}
 use Rattle.site.specs.Attends.{told, IsAt}
 use Rattle.site.specs.declared.attends.Attendance.{Attendance}
-use Rattle.sites.specs.Places.{areaOf, settingOf, Sits}
-use Rattle.sites.specs.Meets.{adding, gathered, Brings, MemberAgrees, Sitting, present, Gathers, AllAgree, Agreed}
-use Rattle.sites.specs.declared.meets.Gathered.{Gathered}
-use Rattle.sites.specs.declared.meets.Gathered.the-variants.{Missing, All}
+use Rattle.meets.specs.Places.{areaOf, settingOf, Sits}
+use Rattle.meets.specs.Meets.{adding, gathered, Brings, MemberAgrees, Sitting, present, Gathers, AllAgree, Agreed}
+use Rattle.meets.specs.declared.present.Gathered.{Gathered}
+use Rattle.meets.specs.declared.present.Gathered.the-variants.{Missing, All}
 
 -- ---- one site
 module _ (bs : List ℕ) (nodes e : ℕ) (m : PartySet) (P room : ℕ) (lengths work : List ℕ) where

@@ -1,11 +1,11 @@
--- `sites::meets::agreed` meets its contract. Assumes nothing.
+-- `meets::present::agreed` meets its contract. Assumes nothing.
 use mir.Syntax.{w32}
 use mir.Val.{toZ, ofZ}
 use Rattle.numbers.proofs.IntegerLaws.{read32}
-use Rattle.sites.proofs.MeetLaws.{share-agrees, reveal-agrees}
+use Rattle.meets.proofs.MeetLaws.{share-agrees, reveal-agrees}
 use borrow.Author.Needs.{needs}
-use Rattle.sites.proofs.meets.agreed.Statement.{statement}
-use Rattle.sites.proofs.meets.agreed.Tie as tie
+use Rattle.meets.proofs.present.agreed.Statement.{statement}
+use Rattle.meets.proofs.present.agreed.Tie as tie
 
 enum-told : tie.Need-enum-told
 enum-told c = search needs

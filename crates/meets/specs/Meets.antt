@@ -12,9 +12,9 @@ use Rattle.rules.specs.Single.{allOf}
 use Rattle.rules.specs.Joint.{Site, Sites, Attendance, away, there, attendance, isThere, orElse, brought, agrees, allAgree}
 use Rattle.rules.specs.declared.effects.Meeting.{Meeting}
 use Rattle.rules.specs.declared.effects.Offer.{Offer}
-use Rattle.sites.specs.Places.{settingOf, Sits}
-use Rattle.sites.specs.declared.meets.Gathered.{Gathered}
-use Rattle.sites.specs.declared.meets.Gathered.the-variants.{Missing, All}
+use Rattle.meets.specs.Places.{settingOf, Sits}
+use Rattle.meets.specs.declared.present.Gathered.{Gathered}
+use Rattle.meets.specs.declared.present.Gathered.the-variants.{Missing, All}
 
 -- one member's part in what is gathered, with what was brought before
 abbrev pub adding : Offer → Attendance → Gathered

@@ -1,13 +1,13 @@
--- `sites::meets::all_agree` meets its contract. Assumes nothing.
+-- `meets::present::all_agree` meets its contract. Assumes nothing.
 use mathlib.Core.Path.{_≡_}
 use Prim.Native.Nat.{_≤_, _-_}
 use native.Mathlib.Omega.{arith}
 use mir.Syntax.{w32}
 use mir.Val.{toZ, ofZ}
 use Rattle.numbers.proofs.IntegerLaws.{read32}
-use Rattle.sites.proofs.MeetLaws.{Agreeing, agree-none, agree-all, agree-more, agree-not}
-use Rattle.sites.proofs.meets.all_agree.Statement.{statement}
-use Rattle.sites.proofs.meets.all_agree.Tie as tie
+use Rattle.meets.proofs.MeetLaws.{Agreeing, agree-none, agree-all, agree-more, agree-not}
+use Rattle.meets.proofs.present.all_agree.Statement.{statement}
+use Rattle.meets.proofs.present.all_agree.Tie as tie
 
 abbrev Inv-loop : tie.InvT-loop
 Inv-loop program nodes e m n room number holders lengths work p₀ p = (p ≤ n) × Agreeing program nodes e m n room lengths work (toZ w32 number) holders p

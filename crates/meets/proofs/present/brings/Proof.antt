@@ -1,14 +1,14 @@
--- `sites::meets::brings` meets its contract. Assumes nothing.
+-- `meets::present::brings` meets its contract. Assumes nothing.
 use native.Mathlib.Omega.{arith}
 use Rattle.numbers.proofs.IntegerLaws.{read32}
 use mathlib.Core.Path.{_≡_, sym, _∙_}
 use mathlib.Core.Bool.{true}
 use borrow.Author.Tests.{not-true, not-false}
 use Rattle.parties.specs.Sets.{member}
-use Rattle.sites.proofs.MeetLaws.{brings-out, brings-in}
+use Rattle.meets.proofs.MeetLaws.{brings-out, brings-in}
 use borrow.Author.Needs.{needs}
-use Rattle.sites.proofs.meets.brings.Statement.{statement}
-use Rattle.sites.proofs.meets.brings.Tie as tie
+use Rattle.meets.proofs.present.brings.Statement.{statement}
+use Rattle.meets.proofs.present.brings.Tie as tie
 
 has-requires : tie.Need-has-requires
 has-requires c κs = search needs
