@@ -1,8 +1,8 @@
--- `sites::turns::takes_input` meets its contract. Assumes nothing.
+-- `sites::steps::takes_input` meets its contract. Assumes nothing.
 use Rattle.sites.proofs.TurnLaws.{none-read}
 use borrow.Author.Needs.{needs}
-use Rattle.sites.proofs.turns.takes_input.Statement.{statement}
-use Rattle.sites.proofs.turns.takes_input.Tie as tie
+use Rattle.sites.proofs.steps.takes_input.Statement.{statement}
+use Rattle.sites.proofs.steps.takes_input.Tie as tie
 
 enum-told : tie.Need-enum-told
 enum-told c = search needs

@@ -1,4 +1,4 @@
--- `sites::turns::act_alone` meets its contract. Assumes nothing.
+-- `sites::steps::act_alone` meets its contract. Assumes nothing.
 use mathlib.Core.Path.{refl, sym, ap, _∙_}
 use Prim.Native.Nat.{_-_}
 use native.Mathlib.Omega.{arith}
@@ -8,8 +8,8 @@ use Rattle.sites.specs.Turns.{once}
 use Rattle.sites.proofs.RowLaws.{row-length}
 use Rattle.sites.proofs.TurnLaws.{taken-inside, alone-by, alone-none}
 use borrow.Author.Needs.{needs}
-use Rattle.sites.proofs.turns.act_alone.Statement.{statement}
-use Rattle.sites.proofs.turns.act_alone.Tie as tie
+use Rattle.sites.proofs.steps.act_alone.Statement.{statement}
+use Rattle.sites.proofs.steps.act_alone.Tie as tie
 
 next-input-requires : tie.Need-next-input-requires
 next-input-requires c κs = search needs

@@ -1,7 +1,7 @@
--- `sites::turns::outcome_of` meets its contract. Assumes nothing.
+-- `sites::steps::outcome_of` meets its contract. Assumes nothing.
 use Rattle.numbers.proofs.IntegerLaws.{read32}
-use Rattle.sites.proofs.turns.outcome_of.Statement.{statement}
-use Rattle.sites.proofs.turns.outcome_of.Tie as tie
+use Rattle.sites.proofs.steps.outcome_of.Statement.{statement}
+use Rattle.sites.proofs.steps.outcome_of.Tie as tie
 
 returns : tie.Need-returns
 returns c = rw (read32 (c .before .args .number) (c .before .fits .number), c .if1 .taken)

@@ -1,10 +1,10 @@
--- `sites::turns::meet` meets its contract. Assumes nothing.
+-- `sites::steps::meet` meets its contract. Assumes nothing.
 use native.Mathlib.Omega.{arith}
 use Rattle.numbers.proofs.IntegerLaws.{read32}
 use Rattle.sites.proofs.TurnLaws.{meets-missing, meets-empty, meets-done}
 use borrow.Author.Needs.{needs}
-use Rattle.sites.proofs.turns.meet.Statement.{statement}
-use Rattle.sites.proofs.turns.meet.Tie as tie
+use Rattle.sites.proofs.steps.meet.Statement.{statement}
+use Rattle.sites.proofs.steps.meet.Tie as tie
 
 gather-requires : tie.Need-gather-requires
 gather-requires c κs = search needs
