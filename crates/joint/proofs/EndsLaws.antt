@@ -93,7 +93,7 @@ finished-more : (J : Sites) (k : ℕ) → allFinished k J ≡ true → isFinishe
 unfolding allFinished
 finished-more J k a h = rw (add-one, h, a)
 
-finished-lack : (J : Sites) (n k : ℕ) → k < n → isFinished (J k) ≡ false → false ≡ allFinished n J
+pub finished-lack : (J : Sites) (n k : ℕ) → k < n → isFinished (J k) ≡ false → false ≡ allFinished n J
 unfolding allFinished
 finished-lack J zero k h q = absurd (let z : k < 0 = h in omega arith)
 finished-lack J (suc m) k h q =

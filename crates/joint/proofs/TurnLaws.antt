@@ -21,7 +21,7 @@ use Rattle.joint.specs.Runs.{AllBelow, RunsTurns}
 
 -- ---- no turn is bad
 -- the first turn is not bad, and none after it
-good-first : (n i t : ℕ) (ts : List ℕ) → badTurnFrom n i (t ∷ ts) ≡ none → (t < n) × (i < maxTurns) × (badTurnFrom n (i + 1) ts ≡ none)
+pub good-first : (n i t : ℕ) (ts : List ℕ) → badTurnFrom n i (t ∷ ts) ≡ none → (t < n) × (i < maxTurns) × (badTurnFrom n (i + 1) ts ≡ none)
 unfolding badTurnFrom
 good-first n i t ts e = go (ltb t n && ltb i maxTurns) refl e
   where

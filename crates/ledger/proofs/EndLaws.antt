@@ -1,43 +1,32 @@
 -- What all parties together wrote: each member its event, or every party its last. Assumes nothing.
 use mathlib.Core.Path.{_≡_, refl, sym, ap, _∙_}
 use mathlib.Core.Bool.{Bool, true, false, and-false}
-use mathlib.Core.List.{List, [], _∷_, _++_, append-nil}
+use mathlib.Core.List.{List, _++_, append-nil}
 use mathlib.Core.Option.{some}
 use Prim.Native.Nat.{ℕ, _+_, _≤_, _<_}
 use native.Mathlib.Omega.{arith}
 use lib.Dec.{leb}
-use lib.ListN.{length, length-append}
+use lib.ListN.{length}
 use borrow.Author.Tests.{leb-true, leb-false}
 use Rattle.parties.specs.Sets.{member}
 use Rattle.parties.specs.declared.sets.PartySet.{PartySet}
 use Rattle.values.specs.Values.{slice}
 use Rattle.values.specs.declared.value.Value.{Value}
-use Rattle.records.specs.Events.{eventBytes, written, finished, hasRoom, heldBack}
-use Rattle.records.specs.EventLaws.{written-append, finished-length}
+use Rattle.records.specs.Events.{written, finished, hasRoom, heldBack}
+use Rattle.records.specs.EventLaws.{finished-length}
 use Rattle.records.specs.declared.events.Event.{Event}
-use Rattle.rules.specs.Books.{Book, Books, used, eventFor, add, note}
+use Rattle.rules.specs.Books.{Books, used, eventFor, roomFor, add, note}
 use Rattle.rules.specs.Single.{noteAll}
+use Rattle.invariants.proofs.BookLaws.{added}
+use Rattle.invariants.proofs.RoomLaws.{fits-after, noted-spare}
 use Rattle.ledger.specs.Ledger.{NotesAll, FinishesAll}
 use Rattle.ledger.specs.Writes.{mayNote, noting, finishing}
 use Rattle.ledger.proofs.RowLaws.{holds-same, holds-length}
 use Rattle.ledger.proofs.RoomLaws.{rooms-each}
-use Rattle.ledger.proofs.WriteLaws.{written-one, noting-none, noting-one, finishing-none, finishing-one}
+use Rattle.ledger.proofs.WriteLaws.{noting-none, noting-one, finishing-none, finishing-one}
 use Rattle.ledger.proofs.LedgerLaws.{Bounded, Going, partly, partly-below}
 
--- an event more
-pub added : (e : Event) (b : Book) → written (add e b .events) ≡ written (b .events) ++ eventBytes e
-unfolding add
-added e b = written-append (b .events) (e ∷ []) ∙ ap (λ (l : List ℕ). written (b .events) ++ l) (written-one e)
-
-pub used-added : (e : Event) (b : Book) → used (add e b) ≡ used b + length (eventBytes e)
-unfolding used
-used-added e b = ap length (added e b) ∙ length-append (written (b .events)) (eventBytes e)
-
 -- ---- each member its event
-fits-after : (R u : ℕ) (e : Event) → hasRoom R u e ≡ true → u + length (eventBytes e) + heldBack ≤ R
-unfolding hasRoom
-fits-after R u e h = leb-true (u + length (eventBytes e) + heldBack) R h
-
 pub noting-bounded : (R : ℕ) (m : PartySet) (e : Event) → Bounded R (noting R m e)
 noting-bounded R m e P u l = go (hasRoom R u (eventFor P e)) refl (member P m) refl
   where
@@ -56,10 +45,9 @@ module _ (R : ℕ) (m : PartySet) (e : Event) (b : Books) (P : ℕ) (o : mayNote
   noted-bytes true i = rw (i, noting-one R m e P (used (b P)) (rw (i, has i))) (added (eventFor P e) (b P))
   noted-bytes false i = rw (i, noting-none R m e P (used (b P)) (rw i)) (sym (append-nil (written (b P .events))))
 
-  noted-fits : (t : Bool) → member P m ≡ t → used (b P) + heldBack ≤ R → used (noteAll m (some e) b P) + heldBack ≤ R
-  unfolding noteAll note
-  noted-fits true i l = rw (i, used-added (eventFor P e) (b P)) (fits-after R (used (b P)) (eventFor P e) (has i))
-  noted-fits false i l = rw i l
+  noted-fits : used (b P) + heldBack ≤ R → used (noteAll m (some e) b P) + heldBack ≤ R
+  unfolding roomFor
+  noted-fits l = noted-spare R m (some e) b P (λ i. has i) l
 
 pub note-end : (R n : ℕ) (m : PartySet) (e : Event) (xs ls xs′ ls′ : List ℕ) → Going R n (noting R m e) n xs ls xs′ ls′ → NotesAll R n m e xs ls xs′ ls′
 note-end R n m e xs ls xs′ ls′ g =
@@ -69,7 +57,7 @@ note-end R n m e xs ls xs′ ls′ g =
           rw (holds-length R n b b xs₀ ls₀ xs ls h P q l) at (rooms-each R m e ls n P q r) in (
             holds-same R n (partly (noting R m e) n b) (noteAll m (some e) b) xs₀ ls₀ xs′ ls′ (g .holds b xs₀ ls₀ l h f)
                 (λ P q. noted-bytes R m e b P (may P q) (member P m) refl ∙ sym (partly-below (noting R m e) n b P q)),
-            (λ P q. noted-fits R m e b P (may P q) (member P m) refl (f P q)),
+            (λ P q. noted-fits R m e b P (may P q) (f P q)),
           );
     }
 

@@ -1,9 +1,8 @@
 -- What both calls look at before they run: the check's answer, the counts, and whether enough was lent. Assumes nothing.
 use mathlib.Core.Path.{_≡_, refl, ap}
-use mathlib.Core.Bool.{Bool, true, false, _&&_}
+use mathlib.Core.Bool.{true, false, _&&_}
 use mathlib.Core.List.{List}
 use Prim.Native.Nat.{ℕ, _*_, _/_, _≤_, _<_}
-use native.Mathlib.Nat.{div-mul-le-self, mul-comm}
 use native.Mathlib.Omega.{arith}
 use borrow.Author.Tests.{le-leb, lt-leb, eqb-true, eq-eqb}
 use lib.Dec.{eqb}
@@ -12,6 +11,7 @@ use Rattle.parties.specs.Limits.{maxParties}
 use Rattle.program.specs.Check.{Program, Checked, good, bad, checked, maxNodes}
 use Rattle.program.specs.Answer.{accepted, refused, answerOf, checkAnswer}
 use Rattle.program.specs.GoodLaws.{good-program}
+use Rattle.program.specs.ScanLaws.{both}
 use Rattle.records.specs.Events.{heldBack}
 use Rattle.refusals.specs.Numbers.{badProgram}
 use Rattle.rules.specs.Lent.{Lent, areaSize, roomOf, sum, countsFit, enoughLent}
@@ -74,18 +74,9 @@ module _ (n areas : ℕ) (L : Lent) where
   unfolding enoughLent roomOf
   enough h l w = rw (le-leb heldBack (length (L .records) / n) h, le-leb n (length (L .lengths)) l, le-leb (areas * areaSize) (length (L .work)) w)
 
--- n rooms of a part each are in the whole
-pub rooms-within : (x n : ℕ) → n * (x / n) ≤ x
-rooms-within x n = let e : n * (x / n) ≡ x / n * n = mul-comm n (x / n) in omega (arith, div-mul-le-self x n)
-
 -- ---- whether the counts fit, by their parts
 pub fit-parts : (a n s m : ℕ) → (eqb a n && eqb s m) ≡ true → (a ≡ n) × (s ≡ m)
-fit-parts a n s m e = go (eqb a n) (eqb s m) refl refl e
-  where
-    go : (x y : Bool) → eqb a n ≡ x → eqb s m ≡ y → (x && y) ≡ true → (a ≡ n) × (s ≡ m)
-    go true true p q r = (eqb-true a n p, eqb-true s m q)
-    go true false p q r = absurd (let z : _≡_ {A = ℕ} 0 1 = cc in omega arith)
-    go false y p q r = absurd (let z : _≡_ {A = ℕ} 0 1 = cc in omega arith)
+fit-parts a n s m e = let (p, q) = both (eqb a n) (eqb s m) e in (eqb-true a n p, eqb-true s m q)
 
 pub fit-whole : (n : ℕ) (L : Lent) → length (L .counts) ≡ n → sum (L .counts) ≡ length (L .inputs) → countsFit n L ≡ true
 unfolding countsFit

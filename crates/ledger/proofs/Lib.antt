@@ -1,6 +1,5 @@
 pub mod PartLaws
 pub mod RowLaws
-pub mod AllLaws
 pub mod RoomLaws
 pub mod WriteLaws
 pub mod LedgerLaws

@@ -14,6 +14,7 @@ use Rattle.rules.specs.Books.{opening, used}
 use Rattle.rules.specs.Moves.{start}
 use Rattle.rules.specs.Names.{noneBound}
 use Rattle.rules.specs.Lent.{recordsLeft, lengthsLeft}
+use Rattle.invariants.proofs.RoomLaws.{start-spare}
 use Rattle.ledger.specs.Ledger.{noneUsed, Fits}
 
 -- ---- control at the root, in the mode of all
@@ -53,5 +54,4 @@ module _ (inputs : ℕ → List ℤ) where
   opening-records (suc n) R xs = opening-records n R xs
 
   pub opening-fits : (R n : ℕ) → heldBack ≤ R → Fits R n (opening inputs)
-  unfolding used written
-  opening-fits R n h P l = omega arith
+  opening-fits R n h P l = start-spare R inputs h P

@@ -1,15 +1,11 @@
 -- A part of a list that was lent and comes back, and runs of stores that lie apart. Assumes nothing.
 use mathlib.Core.Path.{_≡_, refl, sym, ap, _∙_}
 use mathlib.Core.List.{List, [], _∷_, _++_}
-use Prim.Native.Nat.{ℕ, zero, suc, _+_, _-_, _*_, _≤_, _<_}
-use native.Mathlib.Nat.{mul-le-mul-right, suc-mul, zero-add}
+use Prim.Native.Nat.{ℕ, zero, suc, _+_, _-_, _≤_, _<_}
+use native.Mathlib.Nat.{zero-add}
 use native.Mathlib.Omega.{arith}
 use lib.ListN.{length, take, drop, set, length-drop, length-set, take-append-drop}
 use lib.Seq.{sets, set-comm, set-append-left, length-take-le}
-
--- rows of one width do not meet
-pub rows : (j i k : ℕ) → j < i → j * k + k ≤ i * k
-rows j i k h = let q : suc j * k ≤ i * k = mul-le-mul-right k h in omega (arith, q, suc-mul j k)
 
 -- ---- runs of stores that lie apart commute
 set-sets : (vs w : List ℕ) (i q v : ℕ) → i < q → set (sets w q vs) i v ≡ sets (set w i v) q vs

@@ -10,9 +10,9 @@ use Rattle.parties.specs.declared.sets.PartySet.{PartySet}
 use Rattle.records.specs.Events.{hasRoom}
 use Rattle.records.specs.declared.events.Event.{Event}
 use Rattle.rules.specs.Books.{eventFor}
+use Rattle.invariants.proofs.AllOfLaws.{all-none, all-more, all-lack, all-each}
 use Rattle.ledger.specs.Ledger.{roomsFor}
 use Rattle.ledger.specs.Writes.{mayNote}
-use Rattle.ledger.proofs.AllLaws.{all-none, all-more, all-lack, all-each}
 
 -- ---- one party
 module _ (R : ℕ) (m : PartySet) (e : Event) (P u : ℕ) where

@@ -4,15 +4,17 @@ use mathlib.Core.List.{List, _++_}
 use Prim.Native.Nat.{ℕ, zero, suc, _+_, _*_, _≤_, _<_}
 use native.Mathlib.Decide.{decLt}
 use native.Mathlib.Omega.{arith}
-use lib.ListN.{length, getD, set, length-set, length-append}
-use lib.Seq.{sets, length-sets, set-set, set-comm, getD-set-same, getD-set-other}
+use lib.ListN.{length, getD, set, length-append}
+use lib.Seq.{sets, set-set, set-comm}
 use Rattle.numbers.proofs.StretchLaws.{sets-append}
 use Rattle.records.specs.Events.{written}
 use Rattle.rules.specs.Books.{Books, used}
 use Rattle.rules.specs.Lent.{recordsLeft, lengthsLeft}
+use Rattle.invariants.proofs.RowLaws.{rows}
+use Rattle.invariants.proofs.LeftLaws.{length-of}
 use Rattle.ledger.specs.Ledger.{Holds}
 use Rattle.ledger.specs.Writes.{Writes}
-use Rattle.ledger.proofs.PartLaws.{rows, sets-comm}
+use Rattle.ledger.proofs.PartLaws.{sets-comm}
 
 -- of the parties below n the books have the same bytes
 abbrev pub Same : ℕ → Books → Books → Type 0
@@ -22,28 +24,6 @@ Same n b b′ = (P : ℕ) → P < n → written (b′ P .events) ≡ written (b 
 pub record Grew (P : ℕ) (vs : List ℕ) (b b′ : Books) : Type 0 where
   pub own : written (b′ P .events) ≡ written (b P .events) ++ vs
   pub others : (Q : ℕ) → (Q ≡ P → ⊥) → written (b′ Q .events) ≡ written (b Q .events)
-
-pub length-records : (n R : ℕ) (b : Books) (xs : List ℕ) → length (recordsLeft n R b xs) ≡ length xs
-unfolding recordsLeft
-length-records zero R b xs = refl
-length-records (suc P) R b xs = length-sets (recordsLeft P R b xs) (P * R) (written (b P .events)) ∙ length-records P R b xs
-
-pub length-lengths : (n : ℕ) (b : Books) (ls : List ℕ) → length (lengthsLeft n b ls) ≡ length ls
-unfolding lengthsLeft
-length-lengths zero b ls = refl
-length-lengths (suc P) b ls = length-set (lengthsLeft P b ls) P (used (b P)) ∙ length-lengths P b ls
-
--- each party's length is what it used
-pub length-of : (n P : ℕ) (b : Books) (ls : List ℕ) → P < n → n ≤ length ls → getD (lengthsLeft n b ls) P 0 ≡ used (b P)
-unfolding lengthsLeft
-length-of zero P b ls h l = absurd (let z : P < 0 = h in omega arith)
-length-of (suc m) P b ls h l =
-    elim (decLt P m) [
-      | yes q ↦ getD-set-other (lengthsLeft m b ls) m P (used (b m)) 0 (omega arith) ∙ length-of m P b ls q (omega arith)
-      | no q ↦
-          let e : P ≡ m = omega arith in
-          rw e (getD-set-same (lengthsLeft m b ls) m (used (b m)) 0 (rw (length-lengths m b ls) (omega arith)))
-    ]
 
 -- ---- only the written bytes matter
 pub records-same : (n R : ℕ) (b b′ : Books) (xs : List ℕ) → Same n b b′ → recordsLeft n R b xs ≡ recordsLeft n R b′ xs

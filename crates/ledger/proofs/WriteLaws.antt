@@ -1,7 +1,7 @@
 -- One party's write in its part of the lent bytes, and what the parties write. Assumes nothing.
 use mathlib.Core.Path.{_≡_, refl, sym, ap, _∙_}
 use mathlib.Core.Bool.{Bool, true, false, _&&_, cond}
-use mathlib.Core.List.{List, [], _∷_, _++_, append-nil}
+use mathlib.Core.List.{List, [], _++_}
 use Prim.Native.Nat.{ℕ, _+_, _-_, _*_, _≤_, _<_}
 use native.Mathlib.Nat.{add-zero}
 use native.Mathlib.Omega.{arith}
@@ -21,14 +21,11 @@ use Rattle.records.specs.declared.events.Event.{Event}
 use Rattle.records.specs.declared.events.Appended.{Appended}
 use Rattle.records.specs.declared.events.Appended.the-variants.{To, NoRoom}
 use Rattle.rules.specs.Books.{eventFor}
+use Rattle.invariants.proofs.BookLaws.{written-one}
 use Rattle.ledger.specs.Writes.{Writes, noting, finishing}
 use Rattle.ledger.proofs.PartLaws.{part-wrote}
 
 -- ---- what is written
-pub written-one : (e : Event) → written (e ∷ []) ≡ eventBytes e
-unfolding written
-written-one e = append-nil (eventBytes e)
-
 module _ (R : ℕ) (m : PartySet) (e : Event) (P u : ℕ) where
   pub noting-none : member P m && hasRoom R u (eventFor P e) ≡ false → written (noting R m e P u) ≡ []
   unfolding noting written

@@ -18,7 +18,7 @@ use Rattle.rules.specs.declared.effects.Meeting.{Meeting}
 use Rattle.rules.specs.declared.effects.Meeting.the-variants.{Sharing, Revealing}
 use Rattle.rules.specs.declared.effects.Offer.{Offer}
 use Rattle.rules.specs.declared.effects.Offer.the-variants.{Empty}
-use Rattle.ledger.proofs.AllLaws.{passes, all-none, all-more, all-lack}
+use Rattle.invariants.proofs.AllOfLaws.{passes, all-none, all-more, all-lack}
 use Rattle.site.specs.Attends.{told, IsAt}
 use Rattle.site.specs.declared.attends.Attendance.{Attendance}
 use Rattle.meets.specs.Places.{areaOf, settingOf, Sits}

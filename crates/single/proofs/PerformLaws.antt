@@ -1,9 +1,9 @@
 -- Each effect, done in the lent bytes, from what its parts say. Assumes nothing.
 use mathlib.Core.Path.{_≡_, refl, sym, ap, _∙_, subst}
-use mathlib.Core.Bool.{Bool, true, false, not, _||_, _&&_, cond}
+use mathlib.Core.Bool.{Bool, true, false, cond}
 use mathlib.Core.List.{List}
 use mathlib.Core.Option.{none, some}
-use Prim.Native.Nat.{ℕ, zero, suc}
+use Prim.Native.Nat.{ℕ}
 use lib.IntN.{ℤ, pos}
 use Rattle.parties.specs.Limits.{maxParties}
 use Rattle.parties.specs.Sets.{member}
@@ -13,7 +13,7 @@ use Rattle.program.specs.Check.{Program, nodeAt}
 use Rattle.program.specs.declared.nodes.Node.{Node}
 use Rattle.records.specs.Events.{written}
 use Rattle.records.specs.declared.events.Event.{Event}
-use Rattle.records.specs.declared.events.Event.the-variants.{Wrote, Opened, Passed}
+use Rattle.records.specs.declared.events.Event.the-variants.{Wrote}
 use Rattle.refusals.specs.Numbers.{wrongValue, noRoom}
 use Rattle.rules.specs.Books.{Book, Books, handed, eventOf, eventFor, roomFor, add, note}
 use Rattle.rules.specs.Moves.{move}
@@ -24,9 +24,10 @@ use Rattle.rules.specs.Single.{stopped, allOf, noteAll, arrive, settleAll, perf
 use Rattle.rules.specs.declared.effects.Move.{Move}
 use Rattle.rules.specs.declared.effects.Move.the-variants.{Hand}
 use Rattle.rules.specs.declared.effects.Meeting.{Meeting}
-use Rattle.rules.specs.declared.effects.Meeting.the-variants.{Sharing, Revealing}
 use Rattle.rules.specs.declared.effects.Offer.the-variants.{Empty, Secret}
 use Rattle.rules.specs.declared.effects.Effect.the-variants.{Refuse, Goes, Reads, Writes, Meets}
+use Rattle.invariants.proofs.AllOfLaws.{all-by}
+use Rattle.invariants.proofs.BookLaws.{none-taken}
 use Rattle.area.specs.Levels.{controlOf, namesAt}
 use Rattle.area.specs.Table.{PlacesIn, nodeBy}
 use Rattle.area.proofs.TableLaws.{node-by}
@@ -49,13 +50,8 @@ noted-none m b P = go (member P m)
     go false = refl
 
 all-free : (n : ℕ) (m : PartySet) (R : ℕ) (b : Books) → allOf n m (λ P. roomFor R P none (b P)) ≡ true
-unfolding allOf roomFor
-all-free zero m R b = refl
-all-free (suc n) m R b = go (not (member n m)) (all-free n m R b)
-  where
-    go : (t : Bool) → allOf n m (λ P. roomFor R P none (b P)) ≡ true → (t || true) && allOf n m (λ P. roomFor R P none (b P)) ≡ true
-    go true e = e
-    go false e = e
+unfolding roomFor
+all-free n m R b = all-by m (λ P. roomFor R P none (b P)) n (λ P l i. refl)
 
 stands-none : {room n : ℕ} (G : Given room n) (m : PartySet) (b : Books) (l : Lists) (at : List ℕ) → at ≡ l .at → Stands G b l
     → Stands G (noteAll m none b) (record { bytes = l .bytes; lengths = l .lengths; work = l .work; at = at })
@@ -68,27 +64,20 @@ stands-none {room} {n} G m b l at e st =
 
 -- ---- an event that takes no input
 
-write-free : (i : ℤ) (m : PartySet) (b : Books) (P : ℕ) → noteAll m (some (Wrote i)) b P .inputs ≡ b P .inputs
-unfolding noteAll note eventFor add
-write-free i m b P = go (member P m)
+all-keep : (ev : Event) → ((P : ℕ) (b : Book) → note P (some ev) b .inputs ≡ b .inputs) → (m : PartySet) (b : Books) (P : ℕ) → noteAll m (some ev) b P .inputs ≡ b P .inputs
+unfolding noteAll
+all-keep ev keeps m b P = go (member P m)
   where
-    go : (t : Bool) → cond t (note P (some (Wrote i)) (b P)) (b P) .inputs ≡ b P .inputs
-    go true = refl
+    go : (t : Bool) → cond t (note P (some ev) (b P)) (b P) .inputs ≡ b P .inputs
+    go true = keeps P (b P)
     go false = refl
 
+write-free : (i : ℤ) (m : PartySet) (b : Books) (P : ℕ) → noteAll m (some (Wrote i)) b P .inputs ≡ b P .inputs
+unfolding note eventFor add
+write-free i = all-keep (Wrote i) (λ P b. refl)
+
 meeting-free : (mt : Meeting) (i : ℤ) (m : PartySet) (b : Books) (P : ℕ) → noteAll m (some (eventOf mt i)) b P .inputs ≡ b P .inputs
-unfolding noteAll note eventFor eventOf add
-meeting-free (Sharing a q) i m b P = go (member P m)
-  where
-    go : (t : Bool) → cond t (note P (some (eventOf (Sharing a q) i)) (b P)) (b P) .inputs ≡ b P .inputs
-    go true = refl
-    go false = refl
-meeting-free (Revealing q) i m b P = go (member P m) (member P q)
-  where
-    go : (t u : Bool) → cond t (add (cond u (Opened q i) (Passed q)) (b P)) (b P) .inputs ≡ b P .inputs
-    go true true = refl
-    go true false = refl
-    go false u = refl
+meeting-free mt i = all-keep (eventOf mt i) (λ P b. none-taken P mt i b)
 
 module _ (room n : ℕ) (is : List ℤ) (end : List ℕ) (t : Stand) (l : Lists) where
   pub refuses : (r : ℕ) → Performs room n is end (Refuse r) t (Stopped r) l l

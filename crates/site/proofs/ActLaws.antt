@@ -2,7 +2,7 @@
 use mathlib.Core.Path.{_≡_, refl, sym, _∙_, subst}
 use mathlib.Core.Bool.{Bool, true, false}
 use mathlib.Core.List.{List, [], _∷_, _++_, append-nil, append-assoc}
-use mathlib.Core.Option.{none, some}
+use mathlib.Core.Option.{some}
 use Prim.Native.Nat.{ℕ, _+_}
 use native.Mathlib.Nat.{add-zero}
 use native.Mathlib.Omega.{arith}
@@ -17,7 +17,6 @@ use Rattle.values.specs.Values.{slice}
 use Rattle.values.specs.declared.value.Value.{Value}
 use Rattle.values.specs.declared.value.Value.the-variants.{Clear}
 use Rattle.records.specs.Events.{eventBytes, written, finished, hasRoom, heldBack}
-use Rattle.records.specs.EventLaws.{event-short}
 use Rattle.records.specs.Append.{Appends, Closes}
 use Rattle.records.specs.AppendLaws.{Took, Kept, took, kept}
 use Rattle.records.specs.declared.events.Event.{Event}
@@ -35,10 +34,12 @@ use Rattle.rules.specs.declared.effects.Meeting.{Meeting}
 use Rattle.rules.specs.declared.effects.Offer.{Offer}
 use Rattle.rules.specs.declared.effects.Effect.{Effect}
 use Rattle.rules.specs.declared.effects.Effect.the-variants.{Refuse, Goes, Reads, Writes, Meets}
+use Rattle.invariants.specs.Room.{Fits}
+use Rattle.invariants.proofs.BookLaws.{added, used-added}
+use Rattle.invariants.proofs.RoomLaws.{last-fits}
 use Rattle.ledger.specs.Inputs.{headOf}
 use Rattle.ledger.specs.declared.inputs.Taken.{Taken}
 use Rattle.ledger.specs.declared.inputs.Taken.the-variants.{Input, UsedUp}
-use Rattle.ledger.proofs.EndLaws.{added, used-added}
 use Rattle.area.specs.Levels.{controlOf, nextOf}
 use Rattle.area.specs.Levels as Levels
 use Rattle.area.specs.Seats.{seatAt, seated, siteOf, Saves}
@@ -64,7 +65,7 @@ module _ (e : Event) (u : ℕ) (xs : List ℕ) (u′ : ℕ) (xs′ w w′ : List
               bytes = rw t at (c .bytes);
               count = rw t at (c .answer);
               grown = added e b;
-              fits = rw (used-added e b) (omega (arith, event-short e));
+              fits = last-fits (length xs) e b (rw o h);
               stands = rw kept (sym (is (add e b)));
             };
         table = s .table;
@@ -124,7 +125,7 @@ then-took e b s u next xs xs1 u′ xs′ w′ k n =
       bytes = n .bytes ∙ rw (k .bytes, k .to) (sets-append (eventBytes e) (n .more) xs u);
       count = rw (n .count, k .to, length-append) (omega arith);
       grown = n .grown ∙ rw (added e b) (append-assoc (written (b .events)) (eventBytes e) (n .more));
-      fits = subst (λ (R : ℕ). Acts.Fits R s) len (n .fits);
+      fits = subst (λ (R : ℕ). Fits R s) len (n .fits);
       stands = n .stands;
     }
 

@@ -4,8 +4,6 @@ use mathlib.Core.Bool.{Bool, true, false, not}
 use mathlib.Core.List.{List, [], _∷_}
 use Prim.Native.Nat.{ℕ}
 use borrow.Author.Tests.{ne-eqb, eq-eqb}
-use denote.Enum.{Declared.tagOf}
-use types.Run.{OneOf, miss}
 use lib.IntN.{ℤ}
 use Rattle.numbers.specs.Integers.{sameInteger}
 use Rattle.parties.specs.Sets.{member, sameSet}
@@ -23,49 +21,48 @@ use Rattle.area.specs.Seats.{seatAt, seated, siteOf}
 use Rattle.area.specs.declared.stand.Stand.{Stand}
 use Rattle.area.specs.declared.seats.Seat.{Seat}
 use Rattle.area.specs.declared.seats.Seat.the-variants.{Running, Finished, Stopped}
-use Rattle.area.proofs.seats.Seat.{the-type}
 use Rattle.site.specs.Own.{Owns}
-use Rattle.site.specs.Attends.{told, IsAt}
+use Rattle.site.specs.Attends.{told, AttendsFrom, IsAt}
 use Rattle.site.specs.declared.own.Own.{Own}
 use Rattle.site.specs.declared.own.Own.the-variants.{Acts, Attends}
 use Rattle.site.specs.declared.attends.Attendance.{Attendance}
 use Rattle.site.specs.declared.attends.Attendance.the-variants.{Away, There}
 
--- it runs no more
-abbrev pub NotRunning : Seat → Type 0
-NotRunning seat = OneOf (1 ∷ 2 ∷ []) (tagOf the-type seat)
+-- ---- a site that stands at t
+module _ (bs : List ℕ) (nodes : ℕ) (t : Stand) (e : ℕ) (m : PartySet) (P : Party) (room u : ℕ) (w : List ℕ) where
+  pub at-node : (t .node ≡ e → ⊥) → AttendsFrom bs nodes t e m P room u Away w
+  unfolding attendance controlOf
+  at-node h = record { comes = λ p g len places b o. rw (ne-eqb (t .node) e h) }
 
+  module _ (same : t .node ≡ e) where
+    pub at-mode : sameSet (t .mode) m ≡ false → AttendsFrom bs nodes t e m P room u Away w
+    unfolding attendance controlOf
+    at-mode h = record { comes = λ p g len places b o. rw (eq-eqb (t .node) e same, h) }
+
+    module _ (mode : sameSet (t .mode) m ≡ true) (r : Own) (owns : Owns bs nodes P t room u r w) where
+      pub at-acts : (effect : Effect) → r ≡ Acts effect → AttendsFrom bs nodes t e m P room u Away w
+      unfolding attendance controlOf
+      at-acts effect q =
+          record { comes = λ p g len places b o. rw (eq-eqb (t .node) e same, mode, owns .comes p g len places b o, q) }
+
+      pub at-there : (mt : Meeting) (o : Offer) → r ≡ Attends mt o → AttendsFrom bs nodes t e m P room u (There o) w
+      unfolding attendance controlOf
+      at-there mt o q =
+          record { comes = λ p g len places b u. rw (eq-eqb (t .node) e same, mode, owns .comes p g len places b u, q) }
+
+-- ---- any site
 module _ (bs : List ℕ) (nodes e : ℕ) (m : PartySet) (P : Party) (room u : ℕ) (w : List ℕ) (seat : Seat) (sits : seat ≡ seatAt w) where
-  over-away : (S : Setting) (s : Seat) (b : Book) → NotRunning s → away ≡ attendance S e m (P .index) (seated s w b)
-  unfolding attendance
-  over-away S (Running t) b h = absurd (miss (1 ∷ 2 ∷ []) 0 tt h)
-  over-away S Finished b h = refl
-  over-away S Stopped b h = refl
-
-  pub at-over : NotRunning seat → IsAt bs nodes e m P room u Away w
+  pub at-running : (t : Stand) (r : Attendance) → seat ≡ Running t → AttendsFrom bs nodes t e m P room u r w → IsAt bs nodes e m P room u r w
   unfolding siteOf
-  at-over h = record { comes = λ p g len places b o. rw (← sits) (over-away (record { program = p; room = room }) seat b h) }
+  at-running t r runs a = record { comes = λ p g len places b o. rw (← sits, runs) (a .comes p g len places b o) }
 
-  module _ (t : Stand) (runs : seat ≡ Running t) where
-    pub at-node : (t .node ≡ e → ⊥) → IsAt bs nodes e m P room u Away w
-    unfolding attendance siteOf controlOf
-    at-node h = record { comes = λ p g len places b o. rw (← sits, runs, ne-eqb (t .node) e h) }
+  pub at-finished : seat ≡ Finished → IsAt bs nodes e m P room u Away w
+  unfolding attendance siteOf
+  at-finished over = record { comes = λ p g len places b o. rw (← sits, over) }
 
-    module _ (same : t .node ≡ e) where
-      pub at-mode : sameSet (t .mode) m ≡ false → IsAt bs nodes e m P room u Away w
-      unfolding attendance siteOf controlOf
-      at-mode h = record { comes = λ p g len places b o. rw (← sits, runs, eq-eqb (t .node) e same, h) }
-
-      module _ (mode : sameSet (t .mode) m ≡ true) (r : Own) (owns : Owns bs nodes P t room u r w) where
-        pub at-acts : (effect : Effect) → r ≡ Acts effect → IsAt bs nodes e m P room u Away w
-        unfolding attendance siteOf controlOf
-        at-acts effect q =
-            record { comes = λ p g len places b o. rw (← sits, runs, eq-eqb (t .node) e same, mode, owns .comes p g len places b o, q) }
-
-        pub at-there : (mt : Meeting) (o : Offer) → r ≡ Attends mt o → IsAt bs nodes e m P room u (There o) w
-        unfolding attendance siteOf controlOf
-        at-there mt o q =
-            record { comes = λ p g len places b u. rw (← sits, runs, eq-eqb (t .node) e same, mode, owns .comes p g len places b u, q) }
+  pub at-stopped : seat ≡ Stopped → IsAt bs nodes e m P room u Away w
+  unfolding attendance siteOf
+  at-stopped over = record { comes = λ p g len places b o. rw (← sits, over) }
 
 -- ---- agreement
 module _ (i : ℤ) (h : PartySet) (P : ℕ) where

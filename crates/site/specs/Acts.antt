@@ -10,9 +10,10 @@ use Rattle.records.specs.Events.{written, heldBack}
 use Rattle.records.specs.declared.events.Event.{Event}
 use Rattle.rules.specs.Books.{Book, used}
 use Rattle.rules.specs.Single.{Setting}
-use Rattle.rules.specs.Joint.{Site, running, over, land, settle, bookOf}
+use Rattle.rules.specs.Joint.{Site, land, settle, bookOf}
 use Rattle.rules.specs.declared.effects.Move.{Move}
 use Rattle.rules.specs.declared.effects.Effect.{Effect}
+use Rattle.invariants.specs.Room.{Fits}
 use Rattle.ledger.specs.Inputs.{headOf}
 use Rattle.ledger.specs.declared.inputs.Taken.{Taken}
 use Rattle.area.specs.Levels.{tableSize, controlOf, nextOf, DeepEnough}
@@ -21,11 +22,6 @@ use Rattle.area.specs.declared.stand.Stand.{Stand}
 use Rattle.area.specs.declared.stand.Next.{Next}
 use Rattle.site.specs.Own.{acted, Alone}
 use Rattle.site.specs.declared.own.Own.the-variants as Own
-
--- a site that runs has left what is held back for its last event
-abbrev pub Fits : ℕ → Site → Type 0
-Fits R (running c b) = used b + heldBack ≤ R
-Fits R (over finished b) = used b ≤ R
 
 -- from the book b the site came to s: its record grew by some bytes, and its area holds where it now is
 pub record Took (b : Book) (s : Site) (u : ℕ) (xs : List ℕ) (u′ : ℕ) (xs′ w′ : List ℕ) : Type 0 where

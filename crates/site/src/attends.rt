@@ -2,11 +2,13 @@
 ghost use mathlib.Core.Path.{_≡_};
 ghost use Prim.Native.Nat.{_≤_};
 ghost use lib.ListN.{length};
+ghost use Rattle.parties.specs.Limits.{maxFrames};
 ghost use Rattle.rules.specs.Joint.{agrees};
 ghost use Rattle.rules.specs.Lent.{areaSize};
-ghost use Rattle.site.specs.Attends.{told, IsAt};
+ghost use Rattle.site.specs.Attends.{told, AttendsFrom, IsAt};
 use crate::own::Own;
 use area::seats::Seat;
+use area::stand::Stand;
 use parties::limits::Party;
 use parties::sets::PartySet;
 use rules::effects::Offer;
@@ -16,7 +18,36 @@ pub enum Attendance {
     There(Offer),
 }
 
-// Site p stands at the node e in mode m and passes its own checks, or is away.
+// Site p, which stands at t, is at the node e in mode m and passes its own checks, or is away.
+fn attends_from(
+    program: &[u8],
+    nodes: usize,
+    t: Stand,
+    e: u16,
+    m: PartySet,
+    p: Party,
+    room: usize,
+    used: usize,
+    area: &[u8],
+) -> Attendance
+    requires { ⌜ (t .depth .frames ≤ maxFrames) × (areaSize ≤ length (now area)) ⌝ }
+    ensures { λ r. ⌜ AttendsFrom (now (program .entry)) nodes t e m p room used r (now (area .entry)) ⌝ }
+{
+    let node = t.node;
+    let mode = t.mode;
+    if node != e {
+        return Attendance::Away;
+    }
+    if !mode.is(m) {
+        return Attendance::Away;
+    }
+    let Own::Attends(_, offer) = crate::own::asked(program, nodes, p, t, room, used, area) else {
+        return Attendance::Away;
+    };
+    Attendance::There(offer)
+}
+
+// The same of any site. One that is over is away, and nobody is told whether it finished or stopped.
 pub fn attendance_of(
     program: &[u8],
     nodes: usize,
@@ -30,21 +61,11 @@ pub fn attendance_of(
     requires { ⌜ areaSize ≤ length (now area) ⌝ }
     ensures { λ r. ⌜ IsAt (now (program .entry)) nodes e m p room used r (now (area .entry)) ⌝ }
 {
-    let Seat::Running(t) = area::seats::load_seat(area) else {
-        return Attendance::Away;
-    };
-    let node = t.node;
-    let mode = t.mode;
-    if node != e {
-        return Attendance::Away;
+    match area::seats::load_seat(area) {
+        Seat::Running(t) => attends_from(program, nodes, t, e, m, p, room, used, area),
+        Seat::Finished => Attendance::Away,
+        Seat::Stopped => Attendance::Away,
     }
-    if !mode.is(m) {
-        return Attendance::Away;
-    }
-    let Own::Attends(_, offer) = crate::own::asked(program, nodes, p, t, room, used, area) else {
-        return Attendance::Away;
-    };
-    Attendance::There(offer)
 }
 
 // What site p brings agrees with the number i and its holders h.

@@ -26,22 +26,22 @@ use Rattle.rules.specs.declared.effects.Move.the-variants.{Hand}
 use Rattle.rules.specs.declared.effects.Meeting.{Meeting}
 use Rattle.rules.specs.declared.effects.Offer.{Offer}
 use Rattle.rules.specs.declared.effects.Effect.{Effect}
+use Rattle.invariants.specs.Room.{Fits}
 use Rattle.area.specs.Levels.{controlOf}
 use Rattle.area.specs.Seats.{seatAt, seated, siteOf}
 use Rattle.area.specs.declared.stand.Stand.{Stand}
 use Rattle.area.specs.declared.seats.Seat.{Seat}
 use Rattle.area.specs.declared.seats.Seat.the-variants.{Running, Finished, Stopped}
 use Rattle.site.specs.Own.{Owns}
-use Rattle.site.specs.Acts.{Fits, Took, Takes, Settles}
+use Rattle.site.specs.Acts.{Took, Takes, Settles}
 use Rattle.site.specs.declared.own.Own.{Own}
 use Rattle.site.specs.declared.own.Own.the-variants.{Acts, Attends}
-use Rattle.site.proofs.AttendLaws.{NotRunning}
 use Rattle.meets.specs.Places.{row, areaOf, settingOf, Given, Stands}
 use Rattle.sites.specs.Concludes.{concluding, TakesPart, ConcludesOne, ConcludesAll}
 use Rattle.sites.specs.declared.concludes.Outcome.{Outcome}
 use Rattle.sites.specs.declared.concludes.Outcome.the-variants.{Joins, Parts}
 use Rattle.sites.proofs.RowLaws.{back, row-length}
-use Rattle.sites.proofs.StandLaws.{stands-same, stands-length, stands-long, stands-changed}
+use Rattle.sites.proofs.StandLaws.{NotRunning, stands-same, stands-length, stands-long, stands-changed}
 
 -- ---- a member's part, on its own record and area
 module _ (bs : List ℕ) (nodes : ℕ) (outcome : Outcome) (t : Stand) (P : Party) (u : ℕ) (xs w : List ℕ) where

@@ -9,26 +9,23 @@ use native.Mathlib.Omega.{arith}
 use lib.IntN.{ℤ, pos}
 use lib.ListN.{length, getD, set, take, drop}
 use lib.Seq.{take-nil, drop-drop, getD-set-same, getD-set-other}
-use Rattle.parties.specs.Sets.{member}
 use Rattle.parties.specs.declared.sets.PartySet.{PartySet}
 use Rattle.values.specs.Values.{slice}
 use Rattle.values.specs.declared.value.Value.the-variants.{Clear}
 use Rattle.records.specs.declared.events.Event.{Event}
-use Rattle.records.specs.declared.events.Event.the-variants.{Read, Wrote, Opened, Passed}
+use Rattle.records.specs.declared.events.Event.the-variants.{Read, Wrote}
 use Rattle.refusals.specs.Numbers.{noRoom}
-use Rattle.rules.specs.Books.{Book, handed, eventOf, eventFor, roomFor, taken, add, note}
+use Rattle.rules.specs.Books.{Book, handed, eventOf, eventFor, roomFor, add, note}
 use Rattle.rules.specs.Moves.{Control, Next, on, ends, full, move}
 use Rattle.rules.specs.Single.{Setting}
-use Rattle.rules.specs.Joint.{Site, Sites, Own, acts, attends, running, over, stop, land, settle, readOwn, own, joinsBy, joins, parts, Attendance, attendance, isThere, brought, allAgree, putAll, concluded, meeting}
-use Rattle.rules.specs.Single.{allOf}
+use Rattle.rules.specs.Joint.{Site, Sites, Own, acts, attends, running, over, stop, land, settle, readOwn, own, joinsBy, joins, parts, meeting}
 use Rattle.rules.specs.declared.effects.Move.{Move}
 use Rattle.rules.specs.declared.effects.Move.the-variants.{Hand}
 use Rattle.rules.specs.declared.effects.Meeting.{Meeting}
-use Rattle.rules.specs.declared.effects.Meeting.the-variants.{Sharing, Revealing}
-use Rattle.rules.specs.declared.effects.Offer.{Offer}
-use Rattle.rules.specs.declared.effects.Offer.the-variants.{Empty, Secret}
 use Rattle.rules.specs.declared.effects.Effect.{Effect}
 use Rattle.rules.specs.declared.effects.Effect.the-variants.{Refuse, Goes, Reads, Writes, Meets}
+use Rattle.invariants.proofs.BookLaws.{none-taken}
+use Rattle.invariants.proofs.MeetingLaws.{meeting-each}
 use Rattle.ledger.specs.Inputs.{headOf}
 use Rattle.ledger.specs.declared.inputs.Taken.{Taken}
 use Rattle.site.specs.Own.{acted}
@@ -69,16 +66,6 @@ acted-inputs S P c b Reads input h = go (b .inputs) input h refl
 acted-inputs S P c b (Writes i) input h = settle-inputs S P c b (some (Wrote i)) (Hand (Clear (pos 0) (c .mode)))
 acted-inputs S P c b (Meets mt o) input h = refl
 
--- a meeting takes none
-none-taken : (P : ℕ) (mt : Meeting) (i : ℤ) (b : Book) → note P (some (eventOf mt i)) b .inputs ≡ b .inputs
-unfolding note add eventOf eventFor
-none-taken P (Sharing a q) i b = refl
-none-taken P (Revealing q) i b = go (member P q)
-  where
-    go : (t : Bool) → drop (taken (cond t (Opened q i) (Passed q))) (b .inputs) ≡ b .inputs
-    go true = refl
-    go false = refl
-
 -- ---- inputs in the lent list
 drop-take : (k m : ℕ) (xs : List ℤ) → drop k (take m xs) ≡ take (m - k) (drop k xs)
 drop-take zero m xs = let z : m - 0 ≡ m = omega arith in rw z
@@ -116,33 +103,10 @@ module _ (is : List ℤ) (end at : List ℕ) (P : ℕ) where
 
 -- ---- all sites, after a meeting
 module _ (is : List ℤ) (end at : List ℕ) (n : ℕ) (J : Sites) (h : InputsStand is end n at J) where
-  put-inputs : (m : PartySet) (f : ℕ → Site → Site) → ((P : ℕ) (s : Site) → InputsOf is end at P s → InputsOf is end at P (f P s)) → InputsStand is end n at (putAll m f J)
-  unfolding putAll
-  put-inputs m f k P l = go (member P m)
-    where
-      go : (t : Bool) → InputsOf is end at P (cond t (f P (J P)) (J P))
-      go true = k P (J P) (h P l)
-      go false = h P l
-
-  concluded-inputs : (S : Setting) (m : PartySet) (mt : Meeting) (o : Offer) (f : ℕ → Attendance) → InputsStand is end n at (concluded S m mt o f J .sites)
-  unfolding concluded
-  concluded-inputs S m mt Empty f = h
-  concluded-inputs S m mt (Secret i b) f = go (allAgree mt (S .program .parties) m i b f)
-    where
-      go : (t : Bool) → InputsStand is end n at (cond t (putAll m (joins S i) J) (putAll m parts J))
-      go true = put-inputs m (joins S i) (λ P s. inputs-joined is end at P S i s)
-      go false = put-inputs m parts (λ P s. inputs-parted is end at P s)
-
   pub meeting-inputs : (S : Setting) (e : ℕ) (m : PartySet) (mt : Meeting) → InputsStand is end n at (meeting S e m mt J .sites)
-  unfolding meeting
-  meeting-inputs S e m mt = go (allOf (S .program .parties) m (λ P. isThere (f P)))
-    where
-      f : ℕ → Attendance
-      f P = attendance S e m P (J P)
-
-      go : (t : Bool) → InputsStand is end n at (cond t (concluded S m mt (brought (S .program .parties) m f) f J) (record { sites = J; count = 0 }) .sites)
-      go true = concluded-inputs S m mt (brought (S .program .parties) m f) f
-      go false = h
+  meeting-inputs S e m mt P l =
+      meeting-each S (λ Q s s′. InputsOf is end at Q s → InputsOf is end at Q s′) (λ Q s k. k) (λ Q s. inputs-parted is end at Q s) J e m mt
+      (λ i b q Q s. inputs-joined is end at Q S i s) P (h P l)
 
 -- ---- site P acted by itself, and its next input is k further on
 pub acted-stand : (is : List ℤ) (end at : List ℕ) (n : ℕ) (J J′ : Sites) (P : ℕ) (S : Setting) (c : Control) (b : Book) (effect : Effect) (input : Taken) (k : ℕ) → P < length at

@@ -1,27 +1,34 @@
 -- The sites that the lent bytes hold: what they depend on, and what one site's act on its own rows makes of them. Assumes nothing.
 use mathlib.Core.Path.{_≡_, refl, sym, ap, _∙_, subst}
-use mathlib.Core.List.{List}
+use mathlib.Core.List.{List, [], _∷_}
 use Prim.Native.Nat.{ℕ, _+_, _*_, _≤_, _<_}
 use native.Mathlib.Decide.{ℕ-discrete}
 use native.Mathlib.Omega.{arith}
+use denote.Enum.{Declared.tagOf}
+use types.Run.{OneOf}
 use lib.ListN.{length, getD, set, take, length-append}
 use Rattle.records.specs.Events.{written}
 use Rattle.rules.specs.Books.{used}
 use Rattle.rules.specs.Lent.{areaSize}
-use Rattle.rules.specs.Joint.{Site, Sites, running, over, bookOf}
+use Rattle.rules.specs.Joint.{Sites, bookOf}
+use Rattle.invariants.specs.Room.{Fits}
+use Rattle.invariants.proofs.RoomLaws.{book-fits}
+use Rattle.invariants.proofs.RowLaws.{rows}
+use Rattle.invariants.proofs.LeftLaws.{length-records}
 use Rattle.ledger.specs.Writes.{Writes}
-use Rattle.ledger.proofs.PartLaws.{rows}
-use Rattle.ledger.proofs.RowLaws.{Grew, holds-same, holds-length, holds-more, length-records}
+use Rattle.ledger.proofs.RowLaws.{Grew, holds-same, holds-length, holds-more}
 use Rattle.ledger.proofs.WriteLaws.{wrote}
 use Rattle.area.specs.Levels.{tableSize}
+use Rattle.area.specs.declared.seats.Seat.{Seat}
+use Rattle.area.proofs.seats.Seat.{the-type}
 use Rattle.area.proofs.TableLaws.{places-kept}
-use Rattle.site.specs.Acts.{Fits, Took}
+use Rattle.site.specs.Acts.{Took}
 use Rattle.meets.specs.Places.{row, areaOf, Sits, Given, Stands}
 use Rattle.sites.proofs.RowLaws.{back, row-length, row-own, row-other}
 
-fits-used : (R : ℕ) (s : Site) → Fits R s → used (bookOf s) ≤ R
-fits-used R (running c b) h = omega arith
-fits-used R (over f b) h = h
+-- its site runs no more
+abbrev pub NotRunning : Seat → Type 0
+NotRunning seat = OneOf (1 ∷ 2 ∷ []) (tagOf the-type seat)
 
 module _ {bs : List ℕ} {nodes room n : ℕ} (G : Given bs nodes room n) (J J′ : Sites) (bytes lengths work : List ℕ) (st : Stands G J bytes lengths work) where
   -- only the sites below n matter
@@ -62,7 +69,7 @@ module _ {bs : List ℕ} {nodes room n : ℕ} (G : Given bs nodes room n) (J J�
     within =
         let l : length (written (bookOf (J′ P) .events)) ≡ length (written (bookOf (J P) .events)) + length (took .more)
         = ap length (took .grown) ∙ length-append (written (bookOf (J P) .events)) (took .more) in
-        let f : length (written (bookOf (J′ P) .events)) ≤ room = fits-used room (J′ P) fits-own in
+        let f : length (written (bookOf (J′ P) .events)) ≤ room = book-fits room (J′ P) fits-own in
         omega arith
 
     writes : Writes room P (took .more) bytes lengths (back room P bytes ys) (set lengths P u′)

@@ -7,7 +7,8 @@ use lib.IntN.{ℤ}
 use lib.ListN.{replicate}
 use borrow.Author.Needs.{needs}
 use Rattle.rules.specs.Lent.{Lent, roomOf}
-use Rattle.ledger.proofs.LentLaws.{bounds, short-room, short-places, short-work, enough, fit-whole, rooms-within}
+use Rattle.invariants.proofs.LeftLaws.{rooms-within}
+use Rattle.ledger.proofs.LentLaws.{bounds, short-room, short-places, short-work, enough, fit-whole}
 use Rattle.joint.proofs.CallLaws.{call-short, call-runs}
 use Rattle.joint.proofs.runs.run_lent.Statement.{statement}
 use Rattle.joint.proofs.runs.run_lent.Tie as tie

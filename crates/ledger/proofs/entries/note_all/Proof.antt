@@ -2,7 +2,7 @@
 use mathlib.Core.Path.{_≡_}
 use native.Mathlib.Omega.{arith}
 use Prim.Native.Nat.{_≤_, _-_}
-use Rattle.ledger.proofs.PartLaws.{rows}
+use Rattle.invariants.proofs.RowLaws.{rows}
 use Rattle.ledger.proofs.LedgerLaws.{Going, go-none, go-more}
 use Rattle.ledger.proofs.EndLaws.{noting-bounded, note-end}
 use Rattle.ledger.specs.Writes.{noting}

@@ -4,7 +4,7 @@ use Prim.Native.Nat.{_≤_, _-_}
 use native.Mathlib.Omega.{arith}
 use lib.ListN.{length}
 use Rattle.rules.specs.Lent.{areaSize}
-use Rattle.ledger.proofs.PartLaws.{rows}
+use Rattle.invariants.proofs.RowLaws.{rows}
 use Rattle.sites.proofs.ConcludeLaws.{Going, going-none, going-more, going-all}
 use Rattle.sites.proofs.concludes.conclude.Statement.{statement}
 use Rattle.sites.proofs.concludes.conclude.Tie as tie

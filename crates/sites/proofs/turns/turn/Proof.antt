@@ -2,7 +2,7 @@
 use mathlib.Core.Path.{sym, _∙_, subst}
 use native.Mathlib.Omega.{arith}
 use Rattle.rules.specs.Lent.{areaSize}
-use Rattle.ledger.proofs.PartLaws.{rows}
+use Rattle.invariants.proofs.RowLaws.{rows}
 use Rattle.area.specs.Seats.{DeepSeat}
 use Rattle.area.proofs.SeatLaws.{seat-deep}
 use Rattle.meets.specs.Places.{areaOf}

@@ -1,0 +1,117 @@
+-- Demand 1 holds. Assumes nothing.
+use Prim.Native.Nat.{ℕ}
+use mathlib.Core.Path.{_≡_, refl, sym, ap, _∙_}
+use mathlib.Core.Bool.{Bool, true, false, cond}
+use mathlib.Core.List.{List}
+use mathlib.Core.Option.{Option, none, some}
+use native.Mathlib.Omega.{arith}
+use denote.Ref.{RefT}
+use Rattle.program.specs.Check.{Checked, good, bad, checked}
+use Rattle.program.specs.Answer.{CheckAnswer, accepted, refused}
+use Rattle.program.specs.Answer as Check
+use Rattle.program.specs.declared.check.Verdict.{Verdict}
+use Rattle.program.specs.declared.check.Verdict.the-variants as Verdict′
+use Rattle.refusals.specs.Numbers.{badCounts, tooLittleLent}
+use Rattle.records.specs.Walk.{StepAnswer, event, end}
+use Rattle.records.specs.Walk as Walk
+use Rattle.records.specs.Order.{Continues}
+use Rattle.records.specs.declared.walk.Step.{Step}
+use Rattle.records.specs.declared.walk.Step.the-variants as Step′
+use Rattle.reader.specs.declared.Reader.{Reader}
+use Rattle.rules.specs.Lent.{Lent, Left, unchanged, inputsOf, countsFit, enoughLent, leftBy}
+use Rattle.rules.specs.Single.{Single, going, ended, stopped, after}
+use Rattle.rules.specs.Joint.{Turned, runTurns, startAll, allFinished}
+use Rattle.rules.specs.Calls.{SingleAnswer, JointAnswer, singleLeft, singleOf, singleCall, settingOf, badTurnFrom, jointLeft, unlessBadTurn, jointOf, jointCall}
+use Rattle.single.proofs.OneAnswer as Single
+use Rattle.joint.proofs.OneAnswer as Joint
+use Rattle.invariants.specs.Accepted.{IsSingleRun, IsJointRun}
+use Rattle.demands.specs.Demand1.{Untouched, Demand1}
+
+-- no two answers say the same
+untold-check : CheckAnswer → Verdict
+untold-check (accepted n k) = Verdict′.Good n k
+untold-check (refused number place) = Verdict′.Bad place
+
+check-back : (r : Verdict) → untold-check (Check.told r) ≡ r
+unfolding untold-check
+check-back (Verdict′.Good n k) = refl
+check-back (Verdict′.Bad place) = refl
+
+untold-step : StepAnswer → Step
+untold-step (event e next) = Step′.Event e (record { at = next })
+untold-step end = Step′.End
+untold-step (StepAnswer.refused number place) = Step′.Bad place
+
+step-back : (r : Step) → untold-step (Walk.told r) ≡ r
+unfolding untold-step
+step-back (Step′.Event e next) = refl
+step-back Step′.End = refl
+step-back (Step′.Bad place) = refl
+
+-- a reader is its slice and its place
+one-reader : (r r′ : Reader) → r .bytes ≡ r′ .bytes → r .at ≡ r′ .at → r ≡ r′
+one-reader r r′ e f = λ i. record { bytes = e i; at = f i }
+
+-- ---- refused calls
+
+untouched : {A : Type 0} (L : Lent) (a : A) → Untouched L (unchanged L a)
+unfolding unchanged
+untouched L a = record { records = refl; lengths = refl; work = refl }
+
+single-runs : (n : ℕ) (L : Lent) (s : Single) → IsSingleRun (singleLeft n L s .answer)
+unfolding singleLeft leftBy
+single-runs n L (going t c b) = tt
+single-runs n L (ended t v b) = tt
+single-runs n L (stopped t refusal e b) = tt
+
+single-refused : (L : Lent) (budget : ℕ) (c : Checked) → (IsSingleRun (singleOf L budget c .answer) → ⊥) → Untouched L (singleOf L budget c)
+unfolding singleOf
+single-refused L budget (bad place) h = untouched L _
+single-refused L budget (good p) h = go (countsFit (p .parties) L) (enoughLent (p .parties) 1 L) h
+  where
+    run : Left SingleAnswer
+    run = singleLeft (p .parties) L (after (settingOf p L) (inputsOf L) budget)
+
+    go : (t u : Bool) → (IsSingleRun (cond t (cond u run (unchanged L (SingleAnswer.refused tooLittleLent 0))) (unchanged L (SingleAnswer.refused badCounts 0)) .answer) → ⊥) → Untouched L (cond t (cond u run (unchanged L (SingleAnswer.refused tooLittleLent 0))) (unchanged L (SingleAnswer.refused badCounts 0)))
+    go true true h = absurd (h (single-runs (p .parties) L _))
+    go true false h = untouched L _
+    go false u h = untouched L _
+
+joint-runs : (n : ℕ) (L : Lent) (t : Turned) → IsJointRun (jointLeft n L t .answer)
+unfolding jointLeft leftBy
+joint-runs n L t = go (allFinished n (t .sites))
+  where
+    go : (all : Bool) → IsJointRun (cond all (JointAnswer.complete (t .count)) (JointAnswer.stillOpen (t .count)))
+    go true = tt
+    go false = tt
+
+joint-refused : (L : Lent) (ts : List ℕ) (c : Checked) → (IsJointRun (jointOf L ts c .answer) → ⊥) → Untouched L (jointOf L ts c)
+unfolding jointOf
+joint-refused L ts (bad place) h = untouched L _
+joint-refused L ts (good p) h = go (countsFit (p .parties) L) (badTurnFrom (p .parties) 0 ts) (enoughLent (p .parties) (p .parties) L) h
+  where
+    run : Left JointAnswer
+    run = jointLeft (p .parties) L (runTurns (settingOf p L) ts (startAll (settingOf p L) (inputsOf L)))
+
+    go : (t : Bool) (o : Option ℕ) (u : Bool) → (IsJointRun (cond t (unlessBadTurn L o (cond u run (unchanged L (JointAnswer.refused tooLittleLent 0)))) (unchanged L (JointAnswer.refused badCounts 0)) .answer) → ⊥)
+        → Untouched L (cond t (unlessBadTurn L o (cond u run (unchanged L (JointAnswer.refused tooLittleLent 0)))) (unchanged L (JointAnswer.refused badCounts 0)))
+    go true none true h = absurd (h (joint-runs (p .parties) L _))
+    go true none false h = untouched L _
+    go true (some i) u h = untouched L _
+    go false o u h = untouched L _
+
+pub demand-1 : Demand1
+unfolding singleCall jointCall
+demand-1 =
+    record {
+      check = λ bs r r′ e e′. sym (check-back r) ∙ ap untold-check (e ∙ sym e′) ∙ check-back r′;
+      step = λ bs at r r′ e e′. sym (step-back r) ∙ ap untold-step (e ∙ sym e′) ∙ step-back r′;
+      reader-new = λ bytes r r′ h h′. one-reader r r′ (h .0 ∙ sym (h′ .0)) (h .1 ∙ sym (h′ .1));
+      reader-moved-on = λ d r r′ h h′. one-reader r r′ (h .0 ∙ sym (h′ .0)) (h .1 ∙ sym (h′ .1));
+      order = λ xs ys r r′ e e′. e ∙ sym e′;
+      continuation = λ a b r r′ k k′. (k .bytes ∙ sym (k′ .bytes), k .place ∙ sym (k′ .place));
+      single = λ L budget. Single.one-answer (singleCall L budget);
+      single-refused = λ L budget. single-refused L budget (checked (L .program));
+      joint = λ L ts. Joint.one-answer (jointCall L ts);
+      joint-refused = λ L ts. joint-refused L ts (checked (L .program));
+    }

@@ -1,0 +1,54 @@
+-- Demand 1: "Every call accepts every program, input, turn list and room. It runs, or returns the refusal and place that document 01 fixes; a refused
+-- call changes no lent byte; every run ends." No public call has a `requires`, and each has an `ensures` that is one equation with a total
+-- function; that a call ends is part of its proof. What is said here of those contracts: each allows one answer and one content of every
+-- lent slice, and a refused call leaves all as it was.
+use Prim.Native.Nat.{ℕ}
+use mathlib.Core.Path.{_≡_}
+use mathlib.Core.List.{List}
+use denote.Ref.{RefT}
+use Rattle.program.specs.Answer.{checkAnswer}
+use Rattle.program.specs.Answer as Check
+use Rattle.program.specs.declared.check.Verdict.{Verdict}
+use Rattle.records.specs.Walk.{stepAnswer}
+use Rattle.records.specs.Walk as Walk
+use Rattle.records.specs.Order.{orderOf, Continues}
+use Rattle.records.specs.declared.walk.Step.{Step}
+use Rattle.records.specs.declared.order.Order.{Order}
+use Rattle.reader.specs.Next.{placeAfter}
+use Rattle.reader.specs.declared.Reader.{Reader}
+use Rattle.rules.specs.Lent.{Lent, Left}
+use Rattle.rules.specs.Calls.{singleCall, jointCall}
+use Rattle.single.specs.Runs as Single
+use Rattle.single.specs.declared.runs.Answer as Single′
+use Rattle.joint.specs.Runs as Joint
+use Rattle.joint.specs.declared.runs.Answer as Joint′
+use Rattle.invariants.specs.Accepted.{IsSingleRun, IsJointRun}
+
+-- every lent byte is as it was
+pub record Untouched {A : Type 0} (L : Lent) (X : Left A) : Type 0 where
+  pub records : X .records ≡ L .records
+  pub lengths : X .lengths ≡ L .lengths
+  pub work : X .work ≡ L .work
+
+pub record Demand1 : Type 0 where
+  -- program::check::check
+  pub check : (bs : List ℕ) (r r′ : Verdict) → Check.told r ≡ checkAnswer bs → Check.told r′ ≡ checkAnswer bs → r ≡ r′
+  -- records::walk::Cursor::step
+  pub step : (bs : List ℕ) (at : ℕ) (r r′ : Step) → Walk.told r ≡ stepAnswer bs at → Walk.told r′ ≡ stepAnswer bs at → r ≡ r′
+  -- reader::Reader::event and reader::event_at have the contract of `step`; reader::Reader::new and moved_on hand back a reader, which is a slice and a place
+  pub reader-new : (bytes : RefT (List ℕ)) (r r′ : Reader) → (r .bytes ≡ bytes) × (r .at ≡ 0) → (r′ .bytes ≡ bytes) × (r′ .at ≡ 0) → r ≡ r′
+  pub reader-moved-on : (d r r′ : Reader) → (r .bytes ≡ d .bytes) × (r .at ≡ placeAfter (d .bytes .now) (d .at))
+      → (r′ .bytes ≡ d .bytes) × (r′ .at ≡ placeAfter (d .bytes .now) (d .at)) → r ≡ r′
+  -- records::order::order_of and continuation: the bytes, and their place in memory
+  pub order : (xs ys : List ℕ) (r r′ : Order) → r ≡ orderOf xs ys → r′ ≡ orderOf xs ys → r ≡ r′
+  pub continuation : (a b r r′ : RefT (List ℕ)) → Continues a b r → Continues a b r′ → (r .now ≡ r′ .now) × (r .ptr ≡ r′ .ptr)
+  -- single::runs::run
+  pub single : (L : Lent) (budget : ℕ) (a a′ : Single′.Answer) (rs rs′ ls ls′ w w′ : List ℕ)
+      → Single.Is (singleCall L budget) a rs ls w → Single.Is (singleCall L budget) a′ rs′ ls′ w′
+      → (a ≡ a′) × (rs ≡ rs′) × (ls ≡ ls′) × (w ≡ w′)
+  pub single-refused : (L : Lent) (budget : ℕ) → (IsSingleRun (singleCall L budget .answer) → ⊥) → Untouched L (singleCall L budget)
+  -- joint::runs::run
+  pub joint : (L : Lent) (ts : List ℕ) (a a′ : Joint′.Answer) (rs rs′ ls ls′ w w′ : List ℕ)
+      → Joint.Is (jointCall L ts) a rs ls w → Joint.Is (jointCall L ts) a′ rs′ ls′ w′
+      → (a ≡ a′) × (rs ≡ rs′) × (ls ≡ ls′) × (w ≡ w′)
+  pub joint-refused : (L : Lent) (ts : List ℕ) → (IsJointRun (jointCall L ts .answer) → ⊥) → Untouched L (jointCall L ts)

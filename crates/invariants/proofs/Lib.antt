@@ -1,0 +1,17 @@
+pub mod BeginsLaws
+pub mod NameLaws
+pub mod Grows
+pub mod MeetingLaws
+pub mod Passing
+pub mod KeepLaws
+pub mod AllOfLaws
+pub mod BookLaws
+pub mod RoomLaws
+pub mod RowLaws
+pub mod LeftLaws
+pub mod AcceptedLaws
+pub mod EveryLaws
+pub mod NodeLaws
+pub mod RuleRangeLaws
+pub mod StepRangeLaws
+pub mod RangedLaws

@@ -1,0 +1,55 @@
+-- `rehearsal::both::show_joint` meets its contract. Assumes nothing.
+use native.Mathlib.Omega.{arith}
+use borrow.Author.Needs.{needs}
+use Rattle.rehearsal.proofs.BothLaws.{joint-can, joint-put}
+use Rattle.rehearsal.proofs.both.show_joint.Statement.{statement}
+use Rattle.rehearsal.proofs.both.show_joint.Tie as tie
+
+fill-requires : tie.Need-fill-requires
+fill-requires c κs = search needs
+
+run-requires : tie.Need-run-requires
+run-requires c κs = search needs
+
+parties-of-requires : tie.Need-parties-of-requires
+parties-of-requires c κs = search needs
+
+put-joint-requires : tie.Need-put-joint-requires
+put-joint-requires c κs =
+    let s = c .before .before .before .before .before .before .before .before .before .before .before .before .before .before .before .before .before .before .before .before .before .before .before .before .before .before .before .before .before .before .before in
+    let a = s .args in
+    let x = c .before .before .before .before .before .before .before .before .before .before .run .last .1 .1 .1 .1 in
+    (joint-can (a .program .now) (a .counts .now) (a .inputs .now) (x .0) (x .1 .0) (x .1 .1 .0) (c .before .before .before .before .before .before .before .before .before .before .before .before .before .before .before .before .before .before .before .before .fill .ensures) (c .before .before .before .parties-of .result) (c .before .before .before .parties-of .ensures) (s .pre .0) (omega (arith, c .before .before .before .before .before .before .before .before .before .before .run .kept .1 .1 .1 .1 .0, c .before .before .before .before .before .before .before .before .before .before .before .before .before .before .before .before .before .before .before .before .fill .kept .0)) (omega (arith, c .before .before .before .before .before .before .before .before .before .before .run .kept .1 .1 .1 .1 .1 .0, c .before .before .before .before .before .before .before .before .before .before .before .before .before .before .before .before .before .before .before .before .fill .kept .1 .0)) (a .turns .now) (c .before .before .before .before .before .before .before .before .before .before .run .result) (c .before .before .before .before .before .before .before .before .before .before .run .ensures), s .pre .1)
+
+same-length : tie.Need-same-length
+same-length c = search needs
+
+same-length-2 : tie.Need-same-length-2
+same-length-2 c = search needs
+
+same-length-3 : tie.Need-same-length-3
+same-length-3 c = search needs
+
+same-length-4 : tie.Need-same-length-4
+same-length-4 c = search needs
+
+returns : tie.Need-returns
+returns c =
+    let s = c .before .before .before .before .before .before .before .before .before .before .before .before .before .before .before .before .before .before .before .before .before .before .before .before .before .before .before .before .before .before .before .before .before .before in
+    let a = s .args in
+    let x = c .before .before .before .before .before .before .before .before .before .before .before .before .before .run .last .1 .1 .1 .1 in
+    joint-put (a .program .now) (a .counts .now) (a .inputs .now) (x .0) (x .1 .0) (x .1 .1 .0) (c .before .before .before .before .before .before .before .before .before .before .before .before .before .before .before .before .before .before .before .before .before .before .before .fill .ensures) (c .before .before .before .before .before .before .parties-of .result) (c .before .before .before .before .before .before .parties-of .ensures) (s .pre .0) (omega (arith, c .before .before .before .before .before .before .before .before .before .before .before .before .before .run .kept .1 .1 .1 .1 .0, c .before .before .before .before .before .before .before .before .before .before .before .before .before .before .before .before .before .before .before .before .before .before .before .fill .kept .0)) (omega (arith, c .before .before .before .before .before .before .before .before .before .before .before .before .before .run .kept .1 .1 .1 .1 .1 .0, c .before .before .before .before .before .before .before .before .before .before .before .before .before .before .before .before .before .before .before .before .before .before .before .fill .kept .1 .0)) (a .turns .now) (c .before .before .before .before .before .before .before .before .before .before .before .before .before .run .result) (c .before .before .before .before .before .before .before .before .before .before .before .before .before .run .ensures) (c .before .before .put-joint .ensures)
+
+pub show-joint-spec : {M : Type 1} → statement M
+show-joint-spec =
+    tie.close
+    (tie.spec
+    fill-requires
+    run-requires
+    parties-of-requires
+    put-joint-requires
+    same-length
+    same-length-2
+    same-length-3
+    same-length-4
+    returns)

@@ -1,0 +1,3 @@
+pub mod WordLaws
+pub mod DecimalLaws
+pub mod HexLaws
