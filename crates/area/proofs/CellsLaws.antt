@@ -6,11 +6,11 @@ use native.Mathlib.Nat.{add-zero, add-assoc, not-suc-le-zero}
 use native.Mathlib.Omega.{arith}
 use lib.ListN.{length, getD, set, replicate}
 use lib.Seq.{sets}
-use Rattle.numbers.proofs.StretchLaws.{sets-before, sets-after}
-use Rattle.values.specs.Cells.{width, cellBytes, cellAt, Ranged}
-use Rattle.values.specs.declared.cells.Bound.{Bound}
-use Rattle.values.specs.declared.cells.Bound.the-variants.{Unbound}
-use Rattle.values.proofs.CellLaws.{cell-length, cell-same, cell-back}
+use Rattle.stretches.proofs.StretchLaws.{sets-before, sets-after}
+use Rattle.cells.specs.Cells.{width, cellBytes, cellAt, Ranged}
+use Rattle.cells.specs.declared.Bound.{Bound}
+use Rattle.cells.specs.declared.Bound.the-variants.{Unbound}
+use Rattle.cells.proofs.CellLaws.{cell-length, cell-same, cell-back}
 use Rattle.rules.specs.Names.{Names}
 use Rattle.area.specs.Levels.{cells}
 

@@ -6,12 +6,12 @@ use native.Mathlib.Nat.{not-suc-le-zero}
 use native.Mathlib.Omega.{arith}
 use lib.ListN.{length, getD, set, take, drop, replicate}
 use lib.Seq.{sets, take-set-le, getD-append-add, getD-drop}
-use Rattle.numbers.specs.Words.{numberAt}
-use Rattle.numbers.proofs.WordLaws.{number-same}
-use Rattle.parties.specs.Limits.{maxNames}
+use Rattle.words.specs.Words.{numberAt}
+use Rattle.words.proofs.WordLaws.{number-same}
+use Rattle.limits.specs.Limits.{maxNames}
 use Rattle.parties.specs.declared.sets.PartySet.{PartySet}
-use Rattle.values.specs.Cells.{width, cellAt}
-use Rattle.values.specs.declared.cells.Bound.the-variants.{Unbound}
+use Rattle.cells.specs.Cells.{width, cellAt}
+use Rattle.cells.specs.declared.Bound.the-variants.{Unbound}
 use Rattle.rules.specs.Names.{noneBound}
 use Rattle.rules.specs.Moves.{Frame}
 use Rattle.area.specs.Levels.{tableSize, levelAt, namesAt, frameAt, framesOf, controlOf}

@@ -9,19 +9,19 @@ use native.Mathlib.Omega.{arith}
 use borrow.Author.Tests.{lt-ltb, le-ltb}
 use lib.ListN.{length, getD, set, take, drop, replicate, length-drop, getD-replicate, length-replicate}
 use lib.Seq.{sets, sets-eq, length-sets, set-out, drop-drop, length-take-le, getD-take, getD-drop}
-use Rattle.numbers.specs.Stretches.{stretch, copied}
-use Rattle.numbers.specs.Words.{lowFirst, numberAt}
-use Rattle.numbers.proofs.StretchLaws.{sets-before, sets-at, sets-append}
-use Rattle.numbers.proofs.WordLaws.{length-bytes, number-same, number-in}
-use Rattle.parties.specs.Limits.{maxNames, maxFrames, deeperThan}
+use Rattle.stretches.specs.Stretches.{stretch, copied}
+use Rattle.words.specs.Words.{lowFirst, numberAt}
+use Rattle.stretches.proofs.StretchLaws.{sets-before, sets-at, sets-append}
+use Rattle.words.proofs.WordLaws.{length-bytes, number-same, number-in}
+use Rattle.limits.specs.Limits.{maxNames, maxFrames, deeperThan}
 use Rattle.parties.specs.SetBytes.{setBytes, setAt}
-use Rattle.parties.specs.declared.limits.Depth.{Depth}
-use Rattle.parties.specs.declared.limits.MadeDepth.the-variants.{Is, Not}
-use Rattle.parties.specs.declared.limits.Name.{Name}
+use Rattle.limits.specs.declared.Depth.{Depth}
+use Rattle.limits.specs.declared.MadeDepth.the-variants.{Is, Not}
+use Rattle.limits.specs.declared.Name.{Name}
 use Rattle.parties.specs.declared.sets.PartySet.{PartySet}
-use Rattle.values.specs.Cells.{width, cellBytes, Ranged}
+use Rattle.cells.specs.Cells.{width, cellBytes, Ranged}
 use Rattle.values.specs.declared.value.Value.{Value}
-use Rattle.values.specs.declared.cells.Bound.the-variants.{To}
+use Rattle.cells.specs.declared.Bound.the-variants.{To}
 use Rattle.rules.specs.Lent.{areaSize}
 use Rattle.rules.specs.Moves.{on, handBack, move}
 use Rattle.rules.specs.Names.{bind, noneBound}

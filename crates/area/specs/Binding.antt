@@ -3,7 +3,7 @@ use mathlib.Core.Path.{_≡_}
 use mathlib.Core.List.{List}
 use Prim.Native.Nat.{ℕ}
 use lib.ListN.{take}
-use Rattle.parties.specs.declared.limits.Name.{Name}
+use Rattle.limits.specs.declared.Name.{Name}
 use Rattle.values.specs.declared.value.Value.{Value}
 use Rattle.rules.specs.Names.{bind}
 use Rattle.area.specs.Levels.{tableSize, namesAt, framesOf}

@@ -4,10 +4,10 @@ use mathlib.Core.Path.{_≡_}
 use Prim.Native.Nat.{ℕ, zero, suc, _+_, _*_, _≤_}
 use mathlib.Core.List.{List, [], _∷_}
 use lib.ListN.{getD, take}
-use Rattle.numbers.specs.Words.{numberAt}
-use Rattle.parties.specs.Limits.{maxNames, maxFrames}
+use Rattle.words.specs.Words.{numberAt}
+use Rattle.limits.specs.Limits.{maxNames, maxFrames}
 use Rattle.parties.specs.SetBytes.{setAt}
-use Rattle.values.specs.Cells.{width, cellAt}
+use Rattle.cells.specs.Cells.{width, cellAt}
 use Rattle.rules.specs.Names.{Names}
 use Rattle.rules.specs.Moves.{Frame, Control, on, ends, full}
 use Rattle.rules.specs.Moves as Moves

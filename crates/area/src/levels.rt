@@ -2,18 +2,18 @@
 ghost use mathlib.Core.Path.{_≡_};
 ghost use Prim.Native.Nat.{_≤_};
 ghost use lib.ListN.{length};
-ghost use Rattle.parties.specs.Limits.{maxFrames};
+ghost use Rattle.limits.specs.Limits.{maxFrames};
 ghost use Rattle.rules.specs.Moves.{handBack, move};
 ghost use Rattle.rules.specs.Lent.{areaSize};
 ghost use Rattle.area.specs.Levels.{levelAt, framesOf, controlOf, Goes};
 ghost use Rattle.area.specs.Binding.{Binds};
 use crate::stand::Next;
 use crate::stand::Stand;
-use parties::limits::Depth;
-use parties::limits::MadeDepth;
-use parties::limits::Name;
+use cells::Bound;
+use limits::Depth;
+use limits::MadeDepth;
+use limits::Name;
 use rules::effects::Move;
-use values::cells::Bound;
 use values::value::Value;
 
 // The levels follow the table of places.
@@ -67,7 +67,7 @@ pub fn hand_back(v: Value, depth: Depth, w: &mut [u8]) -> Next
     let x = Name {
         index: w[at + NAME],
     };
-    let body = numbers::words::load2(w, at + BODY);
+    let body = words::load2(w, at + BODY);
     let mode = parties::bytes::load_set(w, at + MODE);
     bind(x, v, below, w);
     Next::On(Stand {
@@ -89,9 +89,9 @@ pub fn put_down(x: Name, e1: u16, e2: u16, t: Stand, w: &mut [u8]) -> Next
     };
     let at = level_at(depth);
     w[at + NAME] = x.index;
-    numbers::words::store2(w, at + BODY, e2);
+    words::store2(w, at + BODY, e2);
     parties::bytes::store_set(w, at + MODE, mode);
-    numbers::stretches::copy_within(w, at, at + LEVEL, CELLS);
+    stretches::copy_within(w, at, at + LEVEL, CELLS);
     Next::On(Stand {
         node: e1,
         mode,
@@ -108,7 +108,7 @@ pub fn call(f: u16, v: Value, t: Stand, w: &mut [u8]) -> Next
     let mode = t.mode;
     let from = level_at(depth);
     let to = from + CELLS;
-    numbers::stretches::zero(&mut w[from..to]);
+    stretches::zero(&mut w[from..to]);
     bind(Name { index: 0 }, v, depth, w);
     Next::On(Stand {
         node: f,

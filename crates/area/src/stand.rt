@@ -1,6 +1,6 @@
 // Where control stands. The bindings and the frames lie in the area's levels: the present bindings are the level that is numbered by the
 // frames that are down, and each frame is a level below it, where it lay when it was put down.
-use parties::limits::Depth;
+use limits::Depth;
 use parties::sets::PartySet;
 use values::value::Value;
 

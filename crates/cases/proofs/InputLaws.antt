@@ -10,8 +10,8 @@ use lib.Dec.{eqb, leb}
 use lib.IntN.{ℤ}
 use lib.ListN.{length, getD}
 use borrow.Author.Tests.{eq-eqb, ne-eqb, le-leb, lt-leb, eqb-true, leb-true}
-use Rattle.numbers.specs.Stretches.{stretch}
-use Rattle.numbers.specs.Words.{numberAt}
+use Rattle.stretches.specs.Stretches.{stretch}
+use Rattle.words.specs.Words.{numberAt}
 use Rattle.cases.specs.Rows.{numbersAt, integersAt, sum}
 use Rattle.cases.specs.Input.{maxInput, layoutOf, turnCount, fits, laidOut, caseAt, parsed, told, countsTold}
 use Rattle.cases.specs.Placed.{Placed}

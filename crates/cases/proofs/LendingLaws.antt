@@ -7,7 +7,7 @@ use native.Mathlib.Omega.{arith}
 use lib.Dec.{ltb}
 use lib.ListN.{getD}
 use borrow.Author.Tests.{ltb-true}
-use Rattle.numbers.specs.Words.{numberAt}
+use Rattle.words.specs.Words.{numberAt}
 use Rattle.cases.specs.Lending.{upTo, lendingOf, Capped}
 use Rattle.cases.specs.declared.lending.Lending.{Lending}
 

@@ -13,8 +13,8 @@ use lib.ListN.{length, getD, take, drop, take-append-drop, length-drop}
 use lib.Seq.{drop-cons, drop-drop, take-add, take-all, length-take-le}
 use borrow.Author.Tests.{ltb-true, ltb-false, lt-ltb}
 use Rattle.numbers.specs.Integers.{residue, signed}
-use Rattle.numbers.specs.Stretches.{stretch}
-use Rattle.numbers.specs.Words.{numberAt, integerAt, lowFirst, integerBytes}
+use Rattle.stretches.specs.Stretches.{stretch}
+use Rattle.words.specs.Words.{numberAt, integerAt, lowFirst, integerBytes}
 use Rattle.cases.specs.Rows.{row, numbersAt, integersAt}
 use Rattle.cases.specs.Input.{Case, layoutOf, turnCount, laidOut, caseAt, parsed}
 use Rattle.cases.specs.Written.{joined, inputBytes}

@@ -9,9 +9,9 @@ use lib.Seq.{take-length, take-at, drop-at, getD-at}
 use mir.Syntax.{w32}
 use mir.Val.{SFits}
 use Rattle.numbers.specs.Integers.{residue}
-use Rattle.numbers.specs.Stretches.{stretch}
-use Rattle.numbers.specs.Words.{numberAt, integerAt, lowFirst, integerBytes}
-use Rattle.numbers.proofs.WordLaws.{length-bytes, number-in, integer-in}
+use Rattle.stretches.specs.Stretches.{stretch}
+use Rattle.words.specs.Words.{numberAt, integerAt, lowFirst, integerBytes}
+use Rattle.words.proofs.WordLaws.{length-bytes, number-in, integer-in}
 use Rattle.cases.specs.Rows.{numbersAt, integersAt}
 use Rattle.cases.specs.Input.{Case, turnCount, laidOut, caseAt, parsed}
 use Rattle.cases.specs.Written.{joined, inputBytes, Writable}

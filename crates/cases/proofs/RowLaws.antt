@@ -6,7 +6,7 @@ use native.Mathlib.Numerals.{add-one}
 use native.Mathlib.Omega.{arith}
 use lib.ListN.{length, getD, set, drop, length-append}
 use lib.Seq.{append-snoc, drop-cons, drop-length, set-at}
-use Rattle.numbers.specs.Words.{numberAt}
+use Rattle.words.specs.Words.{numberAt}
 use Rattle.cases.specs.Rows.{row, numbersAt, sum}
 
 module _ {A : Type 0} (f : ℕ → A) where

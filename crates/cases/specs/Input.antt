@@ -8,8 +8,8 @@ use mathlib.Core.Option.{Option, none, some, Option·map}
 use lib.Dec.{eqb, leb}
 use lib.IntN.{ℤ}
 use lib.ListN.{length, getD}
-use Rattle.numbers.specs.Stretches.{stretch}
-use Rattle.numbers.specs.Words.{numberAt}
+use Rattle.stretches.specs.Stretches.{stretch}
+use Rattle.words.specs.Words.{numberAt}
 use Rattle.cases.specs.Rows.{numbersAt, integersAt, sum}
 use Rattle.cases.specs.declared.layout.Layout.{Layout}
 use Rattle.cases.specs.declared.layout.Parsed.{Parsed}

@@ -5,7 +5,7 @@ use mathlib.Core.Bool.{cond}
 use mathlib.Core.List.{List}
 use lib.Dec.{ltb}
 use lib.ListN.{getD}
-use Rattle.numbers.specs.Words.{numberAt}
+use Rattle.words.specs.Words.{numberAt}
 use Rattle.cases.specs.declared.lending.Lending.{Lending}
 
 -- n, or `most` where n is more

@@ -2,7 +2,7 @@
 use Prim.Native.Nat.{ℕ, zero, suc, _+_, _*_}
 use mathlib.Core.List.{List, [], _∷_, _++_}
 use lib.IntN.{ℤ}
-use Rattle.numbers.specs.Words.{numberAt, integerAt}
+use Rattle.words.specs.Words.{numberAt, integerAt}
 
 -- f 0, f 1 and so on, k of them
 unfoldable pub row : {A : Type 0} → ℕ → (ℕ → A) → List A

@@ -5,7 +5,7 @@ use mathlib.Core.List.{List, [], _∷_, _++_}
 use mathlib.Core.Option.{none, some}
 use lib.IntN.{pos}
 use lib.ListN.{take}
-use Rattle.numbers.specs.Words.{numberAt}
+use Rattle.words.specs.Words.{numberAt}
 use Rattle.cases.specs.Rows.{row, numbersAt, integersAt, sum}
 use Rattle.cases.specs.Input.{layoutOf, turnCount, fits, laidOut, caseAt, parsed}
 

@@ -5,7 +5,7 @@ use Prim.Native.Nat.{ℕ, _^_, _≤_, _<_}
 use lib.ListN.{length}
 use mir.Syntax.{w32}
 use mir.Val.{SFits}
-use Rattle.numbers.specs.Words.{lowFirst, integerBytes}
+use Rattle.words.specs.Words.{lowFirst, integerBytes}
 use Rattle.cases.specs.Rows.{sum}
 use Rattle.cases.specs.Input.{Case, maxInput}
 

@@ -40,7 +40,7 @@ fn sum_of(text: &[u8], at: usize, k: usize) -> usize
     let mut s = 0;
     let mut i = 0;
     while i < k {
-        s += numbers::words::load2(text, at + 2 * i) as usize;
+        s += words::load2(text, at + 2 * i) as usize;
         i += 1;
     }
     s
@@ -57,7 +57,7 @@ pub fn parse(text: &[u8]) -> Parsed
     if size < 2 {
         return Parsed::Bad;
     }
-    let end = 2 + numbers::words::load2(text, 0) as usize;
+    let end = 2 + words::load2(text, 0) as usize;
     if size <= end {
         return Parsed::Bad;
     }
@@ -73,7 +73,7 @@ pub fn parse(text: &[u8]) -> Parsed
     if size < turns {
         return Parsed::Bad;
     }
-    if size - turns != numbers::words::load2(text, budget + 4) as usize {
+    if size - turns != words::load2(text, budget + 4) as usize {
         return Parsed::Bad;
     }
     Parsed::Good(Layout {

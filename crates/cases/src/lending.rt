@@ -35,9 +35,9 @@ pub fn lending_of(head: &[u8]) -> Lending
     ensures { λ r. ⌜ r ≡ lendingOf (now (head .entry)) ⌝ }
 {
     Lending {
-        records: up_to(Lending::RECORDS, numbers::words::load4(head, 0) as usize),
+        records: up_to(Lending::RECORDS, words::load4(head, 0) as usize),
         lengths: up_to(Lending::LENGTHS, head[4] as usize),
-        single: up_to(Lending::WORK, numbers::words::load4(head, 5) as usize),
-        joint: up_to(Lending::WORK, numbers::words::load4(head, 9) as usize),
+        single: up_to(Lending::WORK, words::load4(head, 5) as usize),
+        joint: up_to(Lending::WORK, words::load4(head, 9) as usize),
     }
 }

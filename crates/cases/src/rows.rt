@@ -11,7 +11,7 @@ pub fn load_counts(text: &[u8], at: usize, counts: &mut [usize])
 {
     let mut i = 0;
     while i < counts.len() {
-        counts[i] = numbers::words::load2(text, at + 2 * i) as usize;
+        counts[i] = words::load2(text, at + 2 * i) as usize;
         i += 1;
     }
 }
@@ -23,7 +23,7 @@ pub fn load_inputs(text: &[u8], at: usize, inputs: &mut [i32])
 {
     let mut i = 0;
     while i < inputs.len() {
-        inputs[i] = numbers::words::load_integer(text, at + 4 * i);
+        inputs[i] = words::load_integer(text, at + 4 * i);
         i += 1;
     }
 }

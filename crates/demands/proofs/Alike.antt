@@ -7,7 +7,7 @@ use mathlib.Core.Option.{Option, none, some}
 use lib.Dec.{ltb}
 use lib.IntN.{ℤ, pos}
 use lib.ListN.{length, length-map}
-use Rattle.parties.specs.Limits.{maxFrames}
+use Rattle.limits.specs.Limits.{maxFrames}
 use Rattle.values.specs.declared.value.Value.{Value}
 use Rattle.values.specs.declared.value.Value.the-variants.{Nothing, Clear, Share}
 use Rattle.program.specs.Check.{nodeAt}

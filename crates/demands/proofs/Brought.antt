@@ -11,16 +11,16 @@ use lib.IntN.{ℤ}
 use lib.ListN.{getD}
 use Rattle.parties.specs.Sets.{member, meet, join, isEmpty, sameSet, only, makeUp}
 use Rattle.parties.specs.SetLaws.{member-join, member-only, same-set, same-self, some-member}
-use Rattle.parties.specs.declared.limits.Name.{Name}
-use Rattle.parties.specs.declared.limits.Party.{Party}
+use Rattle.limits.specs.declared.Name.{Name}
+use Rattle.limits.specs.declared.Party.{Party}
 use Rattle.parties.specs.declared.sets.PartySet.{PartySet}
 use Rattle.values.specs.Values.{place, moved, restrict, slice}
 use Rattle.values.specs.declared.value.Value.{Value}
 use Rattle.values.specs.declared.value.Value.the-variants.{Nothing, Clear, Share}
-use Rattle.values.specs.declared.cells.Bound.{Bound}
-use Rattle.values.specs.declared.cells.Bound.the-variants.{Unbound, To}
-use Rattle.program.specs.declared.nodes.Node.{Node}
-use Rattle.program.specs.declared.nodes.Node.the-variants.{VAR, INT, OP, MUX, READ, WRITE, EMBED, SHARE, REVEAL, LET, CASE, PAR, CALL}
+use Rattle.cells.specs.declared.Bound.{Bound}
+use Rattle.cells.specs.declared.Bound.the-variants.{Unbound, To}
+use Rattle.nodes.specs.declared.Node.{Node}
+use Rattle.nodes.specs.declared.Node.the-variants.{VAR, INT, OP, MUX, READ, WRITE, EMBED, SHARE, REVEAL, LET, CASE, PAR, CALL}
 use Rattle.refusals.specs.Numbers.{wrongValue, wrongMode}
 use Rattle.rules.specs.Names.{Names, restricted, look, Looked, found, unbound, before, lookAll, namesOf, first}
 use Rattle.rules.specs.Rules.{unless, giverShares, otherShares, atShare, holderOpens, atReveal, judge, withValues, rule}

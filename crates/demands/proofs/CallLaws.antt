@@ -5,9 +5,9 @@ use mathlib.Core.Bool.{true}
 use mathlib.Core.List.{List, [], _∷_}
 use mathlib.Core.Option.{none}
 use Rattle.program.specs.Check.{Program, good, checked}
-use Rattle.records.specs.Walk.{ends}
+use Rattle.walk.specs.Walk.{ends}
 use Rattle.records.specs.declared.events.Event.{Event}
-use Rattle.records.proofs.WrittenLaws.{before}
+use Rattle.walk.proofs.WrittenLaws.{before}
 use Rattle.rules.specs.Lent.{Lent, roomOf, countsFit, enoughLent}
 use Rattle.rules.specs.Calls.{settingOf, badTurnFrom, jointCall}
 use Rattle.invariants.specs.Accepted.{SingleAccepted, JointAccepted, jointRun}

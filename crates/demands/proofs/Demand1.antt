@@ -12,11 +12,11 @@ use Rattle.program.specs.Answer as Check
 use Rattle.program.specs.declared.check.Verdict.{Verdict}
 use Rattle.program.specs.declared.check.Verdict.the-variants as Verdict′
 use Rattle.refusals.specs.Numbers.{badCounts, tooLittleLent}
-use Rattle.records.specs.Walk.{StepAnswer, event, end}
-use Rattle.records.specs.Walk as Walk
-use Rattle.records.specs.Order.{Continues}
-use Rattle.records.specs.declared.walk.Step.{Step}
-use Rattle.records.specs.declared.walk.Step.the-variants as Step′
+use Rattle.walk.specs.Walk.{StepAnswer, event, end}
+use Rattle.walk.specs.Walk as Walk
+use Rattle.order.specs.Order.{Continues}
+use Rattle.walk.specs.declared.Step.{Step}
+use Rattle.walk.specs.declared.Step.the-variants as Step′
 use Rattle.reader.specs.declared.Reader.{Reader}
 use Rattle.rules.specs.Lent.{Lent, Left, unchanged, inputsOf, countsFit, enoughLent, leftBy}
 use Rattle.rules.specs.Single.{Single, going, ended, stopped, after}

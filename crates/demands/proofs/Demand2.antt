@@ -7,9 +7,9 @@ use mathlib.Core.Option.{none}
 use native.Mathlib.Omega.{arith}
 use lib.IntN.{ℤ}
 use lib.ListN.{length, getD, take, drop}
-use Rattle.parties.specs.Limits.{maxParties}
+use Rattle.limits.specs.Limits.{maxParties}
 use Rattle.program.specs.Check.{Program, good, checked}
-use Rattle.program.specs.GoodLaws.{good-program}
+use Rattle.places.specs.GoodLaws.{good-program}
 use Rattle.values.specs.declared.value.Value.{Value}
 use Rattle.records.specs.Events.{written}
 use Rattle.rules.specs.Books.{Book, Books, used}

@@ -9,7 +9,7 @@ use native.Mathlib.Omega.{arith}
 use Rattle.rules.specs.Joint.{Sites, isFinished, allFinished}
 use Rattle.rules.specs.Calls.{badTurnFrom}
 use Rattle.joint.proofs.TurnLaws.{good-first}
-use Rattle.joint.proofs.EndsLaws.{finished-lack}
+use Rattle.ends.proofs.EndsLaws.{finished-lack}
 use Rattle.demands.specs.Rounds.{Below}
 
 -- turns that no call refuses are parties' turns

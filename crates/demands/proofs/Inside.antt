@@ -7,7 +7,7 @@ use mathlib.Core.Option.{Option, none, some}
 use lib.Dec.{ltb}
 use lib.IntN.{ℤ, pos}
 use lib.ListN.{length}
-use Rattle.parties.specs.Limits.{maxFrames}
+use Rattle.limits.specs.Limits.{maxFrames}
 use Rattle.parties.specs.Sets.{member}
 use Rattle.values.specs.Values.{slice}
 use Rattle.values.specs.declared.value.Value.{Value}

@@ -10,15 +10,15 @@ use lib.Dec.{ltb}
 use lib.ListN.{length, getD}
 use borrow.Author.Tests.{ltb-true}
 use Rattle.numbers.specs.Integers.{reduced}
-use Rattle.numbers.specs.Words.{lowFirst, numberAt}
+use Rattle.words.specs.Words.{lowFirst, numberAt}
 use Rattle.parties.specs.Sets.{member, meet, join, isEmpty, sameSet, only, all, within, countFrom, count, lowestFrom, lowest, makeUp}
 use Rattle.values.specs.Values.{place, moved, restrict, slice, held, hadBy}
-use Rattle.program.specs.Nodes.{bodyLength, nodeOf}
+use Rattle.nodes.specs.Nodes.{bodyLength, nodeOf}
 use Rattle.program.specs.Check.{good, fits, isGood, scan, badCall, verdict, checked, nodeAt}
 use Rattle.program.specs.ScanLaws.{both}
 use Rattle.refusals.specs.Numbers.{tooLittleLent, disagreement}
 use Rattle.records.specs.Events.{eventBytes, written, finished, hasRoom}
-use Rattle.records.specs.Walk.{bodyWidth, eventFrom, isWhole, walkFrom, walk}
+use Rattle.walk.specs.Walk.{bodyWidth, eventFrom, isWhole, walkFrom, walk}
 use Rattle.records.specs.declared.events.Event.{Event}
 use Rattle.records.specs.declared.events.Event.the-variants.{Read, Wrote, Shared, Opened, Passed, Finished, Stopped}
 use Rattle.rules.specs.Names.{noneBound, bind, look, lookAll, namesOf}

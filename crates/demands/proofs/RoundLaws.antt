@@ -8,7 +8,7 @@ use native.Mathlib.Nat.{le-refl, not-suc-le-zero, zero-add, add-zero, suc-add, a
 use native.Mathlib.Omega.{arith}
 use native.Mathlib.Decide.{decLt}
 use lib.IntN.{ℤ}
-use Rattle.parties.specs.Limits.{maxParties}
+use Rattle.limits.specs.Limits.{maxParties}
 use Rattle.parties.specs.SetLaws.{member-all}
 use Rattle.rules.specs.Moves.{start}
 use Rattle.rules.specs.Single.{Setting, after}

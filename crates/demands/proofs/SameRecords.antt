@@ -6,7 +6,7 @@ use mathlib.Core.List.{List}
 use native.Mathlib.Omega.{arith}
 use native.Mathlib.Decide.{decLt}
 use lib.IntN.{ℤ}
-use Rattle.parties.specs.Limits.{maxParties}
+use Rattle.limits.specs.Limits.{maxParties}
 use Rattle.rules.specs.Single.{Setting, Single, going, ended, stopped, after}
 use Rattle.rules.specs.Joint.{Site, over, land, Sites, turn, startAll, isFinished, bookOf}
 use Rattle.invariants.specs.Sites.{siteAfter}

@@ -9,8 +9,8 @@ use native.Mathlib.Omega.{arith}
 use lib.Dec.{ltb}
 use lib.IntN.{ℤ, pos}
 use lib.ListN.{length}
-use Rattle.numbers.specs.Words.{lowFirst}
-use Rattle.parties.specs.Limits.{maxParties, maxFrames}
+use Rattle.words.specs.Words.{lowFirst}
+use Rattle.limits.specs.Limits.{maxParties, maxFrames}
 use Rattle.parties.specs.Sets.{member, lowest}
 use Rattle.parties.specs.SetLaws.{only-member}
 use Rattle.parties.specs.declared.sets.PartySet.{PartySet}

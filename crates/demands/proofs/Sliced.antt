@@ -9,16 +9,16 @@ use lib.ListN.{getD}
 use Rattle.numbers.specs.Integers.{operate}
 use Rattle.parties.specs.Sets.{member, meet, isEmpty, sameSet, none}
 use Rattle.parties.specs.SetLaws.{member-meet, member-none, same-set}
-use Rattle.parties.specs.declared.limits.Name.{Name}
+use Rattle.limits.specs.declared.Name.{Name}
 use Rattle.parties.specs.declared.sets.PartySet.{PartySet}
 use Rattle.values.specs.Values.{place, moved, restrict, slice, held, hadBy}
 use Rattle.values.specs.declared.value.Value.{Value}
 use Rattle.values.specs.declared.value.Value.the-variants.{Nothing, Clear, Share}
 use Rattle.values.specs.declared.value.Held.{Held}
 use Rattle.values.specs.declared.value.Held.the-variants.{Number, Other}
-use Rattle.program.specs.Nodes.{operationOf}
-use Rattle.program.specs.declared.nodes.Node.{Node}
-use Rattle.program.specs.declared.nodes.Node.the-variants.{VAR, INT, OP, MUX, READ, WRITE, EMBED, SHARE, REVEAL, LET, CASE, PAR, CALL}
+use Rattle.nodes.specs.Nodes.{operationOf}
+use Rattle.nodes.specs.declared.Node.{Node}
+use Rattle.nodes.specs.declared.Node.the-variants.{VAR, INT, OP, MUX, READ, WRITE, EMBED, SHARE, REVEAL, LET, CASE, PAR, CALL}
 use Rattle.refusals.specs.Numbers.{wrongValue, wrongMode}
 use Rattle.rules.specs.Names.{Names, Looked, found, unbound, lookAll, namesOf, first, second, third}
 use Rattle.rules.specs.Rules.{unless, onTwo, onThree, mux, ifClear, alone, judge, withValues, rule}

@@ -9,7 +9,7 @@ use native.Mathlib.Decide.{decLt}
 use borrow.Author.Tests.{eqb-true, eq-eqb}
 use lib.Dec.{eqb}
 use lib.IntN.{ℤ}
-use Rattle.parties.specs.Limits.{maxParties}
+use Rattle.limits.specs.Limits.{maxParties}
 use Rattle.parties.specs.Sets.{member}
 use Rattle.parties.specs.SetLaws.{same-self}
 use Rattle.parties.specs.declared.sets.PartySet.{PartySet}

@@ -9,7 +9,7 @@ use native.Mathlib.Nat.{zero-add, suc-add}
 use lib.IntN.{ℤ, pos}
 use lib.ListN.{length, getD}
 use Rattle.parties.specs.Sets.{member}
-use Rattle.parties.specs.declared.limits.Party.{Party}
+use Rattle.limits.specs.declared.Party.{Party}
 use Rattle.parties.specs.declared.sets.PartySet.{PartySet}
 use Rattle.values.specs.Values.{place, slice}
 use Rattle.values.specs.declared.value.Value.the-variants.{Clear}

@@ -8,7 +8,7 @@ use native.Mathlib.Nat.{zero-add}
 use native.Mathlib.Omega.{arith}
 use native.Mathlib.Decide.{decLt}
 use lib.IntN.{ℤ}
-use Rattle.parties.specs.Limits.{maxParties}
+use Rattle.limits.specs.Limits.{maxParties}
 use Rattle.program.specs.Check.{nodeAt}
 use Rattle.rules.specs.Books.{Book}
 use Rattle.rules.specs.Single.{Setting, Single, going, ended, stopped, step, after}

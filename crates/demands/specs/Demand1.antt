@@ -9,11 +9,11 @@ use denote.Ref.{RefT}
 use Rattle.program.specs.Answer.{checkAnswer}
 use Rattle.program.specs.Answer as Check
 use Rattle.program.specs.declared.check.Verdict.{Verdict}
-use Rattle.records.specs.Walk.{stepAnswer}
-use Rattle.records.specs.Walk as Walk
-use Rattle.records.specs.Order.{orderOf, Continues}
-use Rattle.records.specs.declared.walk.Step.{Step}
-use Rattle.records.specs.declared.order.Order.{Order}
+use Rattle.walk.specs.Walk.{stepAnswer}
+use Rattle.walk.specs.Walk as Walk
+use Rattle.order.specs.Order.{orderOf, Continues}
+use Rattle.walk.specs.declared.Step.{Step}
+use Rattle.order.specs.declared.Order.{Order}
 use Rattle.reader.specs.Next.{placeAfter}
 use Rattle.reader.specs.declared.Reader.{Reader}
 use Rattle.rules.specs.Lent.{Lent, Left}
@@ -33,13 +33,13 @@ pub record Untouched {A : Type 0} (L : Lent) (X : Left A) : Type 0 where
 pub record Demand1 : Type 0 where
   -- program::check::check
   pub check : (bs : List ℕ) (r r′ : Verdict) → Check.told r ≡ checkAnswer bs → Check.told r′ ≡ checkAnswer bs → r ≡ r′
-  -- records::walk::Cursor::step
+  -- walk::Cursor::step
   pub step : (bs : List ℕ) (at : ℕ) (r r′ : Step) → Walk.told r ≡ stepAnswer bs at → Walk.told r′ ≡ stepAnswer bs at → r ≡ r′
   -- reader::Reader::event and reader::event_at have the contract of `step`; reader::Reader::new and moved_on hand back a reader, which is a slice and a place
   pub reader-new : (bytes : RefT (List ℕ)) (r r′ : Reader) → (r .bytes ≡ bytes) × (r .at ≡ 0) → (r′ .bytes ≡ bytes) × (r′ .at ≡ 0) → r ≡ r′
   pub reader-moved-on : (d r r′ : Reader) → (r .bytes ≡ d .bytes) × (r .at ≡ placeAfter (d .bytes .now) (d .at))
       → (r′ .bytes ≡ d .bytes) × (r′ .at ≡ placeAfter (d .bytes .now) (d .at)) → r ≡ r′
-  -- records::order::order_of and continuation: the bytes, and their place in memory
+  -- order::order_of and continuation: the bytes, and their place in memory
   pub order : (xs ys : List ℕ) (r r′ : Order) → r ≡ orderOf xs ys → r′ ≡ orderOf xs ys → r ≡ r′
   pub continuation : (a b r r′ : RefT (List ℕ)) → Continues a b r → Continues a b r′ → (r .now ≡ r′ .now) × (r .ptr ≡ r′ .ptr)
   -- single::runs::run

@@ -5,7 +5,7 @@ use mathlib.Core.List.{List, [], _∷_}
 use lib.IntN.{ℤ, pos}
 use lib.ListN.{length, replicate}
 use Rattle.program.specs.Check.{Program}
-use Rattle.program.specs.declared.nodes.Node.the-variants.{READ, SHARE, REVEAL, LET, PAR}
+use Rattle.nodes.specs.declared.Node.the-variants.{READ, SHARE, REVEAL, LET, PAR}
 use Rattle.refusals.specs.Numbers.{tooLittleLent}
 use Rattle.rules.specs.Lent.{Lent}
 use Rattle.rules.specs.Calls.{endedAfter, refused, complete, stillOpen, singleCall, jointCall}

@@ -5,8 +5,8 @@ use mathlib.Core.List.{List, [], _∷_, _++_, List·Memᴰ}
 use lib.IntN.{ℤ}
 use Rattle.parties.specs.Sets.{member}
 use Rattle.program.specs.Check.{nodeAt}
-use Rattle.program.specs.declared.nodes.Node.{Node}
-use Rattle.program.specs.declared.nodes.Node.the-variants.{VAR, INT, OP, MUX, READ, WRITE, EMBED, SHARE, REVEAL, LET, CASE, PAR, CALL}
+use Rattle.nodes.specs.declared.Node.{Node}
+use Rattle.nodes.specs.declared.Node.the-variants.{VAR, INT, OP, MUX, READ, WRITE, EMBED, SHARE, REVEAL, LET, CASE, PAR, CALL}
 use Rattle.rules.specs.Single.{Setting, Single, going, ended, stopped, after}
 
 -- every turn is a party's

@@ -1,7 +1,7 @@
 -- What a walk of a record finds.
 use Prim.Native.Nat.{ℕ}
 use mathlib.Core.List.{List, [], _∷_}
-use Rattle.records.specs.Walk.{Walked, ends, stops, andThen, walk}
+use Rattle.walk.specs.Walk.{Walked, ends, stops, andThen, walk}
 use Rattle.records.specs.declared.events.Event.{Event}
 
 abbrev pub found : Walked → List Event

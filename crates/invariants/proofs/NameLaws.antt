@@ -4,14 +4,14 @@ use Prim.Native.Nat.{ℕ, zero, suc}
 use mathlib.Core.Path.{_≡_, refl, sym, ap, _∙_}
 use mathlib.Core.List.{List, [], _∷_, map}
 use lib.ListN.{getD, set, replicate, List·getD-map}
-use Rattle.parties.specs.Limits.{maxNames}
-use Rattle.parties.specs.declared.limits.Name.{Name}
+use Rattle.limits.specs.Limits.{maxNames}
+use Rattle.limits.specs.declared.Name.{Name}
 use Rattle.parties.specs.declared.sets.PartySet.{PartySet}
 use Rattle.values.specs.Values.{restrict}
 use Rattle.values.specs.declared.value.Value.{Value}
 use Rattle.values.specs.declared.value.Value.the-variants.{Nothing}
-use Rattle.values.specs.declared.cells.Bound.{Bound}
-use Rattle.values.specs.declared.cells.Bound.the-variants.{Unbound, To}
+use Rattle.cells.specs.declared.Bound.{Bound}
+use Rattle.cells.specs.declared.Bound.the-variants.{Unbound, To}
 use Rattle.rules.specs.Names.{Names, noneBound, bind, restricted, look, Looked, found, unbound, before, lookAll}
 use Rattle.invariants.specs.Changes.{onBound, onNames, onLooked}
 

@@ -12,18 +12,18 @@ use lib.Pow.{pow-mono}
 use mir.Syntax.{w32}
 use mir.Val.{SFits}
 use borrow.Author.Tests.{ltb-true}
-use Rattle.numbers.specs.Words.{numberAt}
+use Rattle.words.specs.Words.{numberAt}
 use Rattle.numbers.proofs.IntegerLaws.{signed-fits}
 use Rattle.parties.specs.Sets.{isEmpty, within}
 use Rattle.parties.specs.declared.sets.PartySet.{PartySet}
-use Rattle.program.specs.Nodes.{nodeOf, nodeIn}
+use Rattle.nodes.specs.Nodes.{nodeOf, nodeIn}
 use Rattle.program.specs.Check.{isName, isParty, isFull, fits, calls, Program, good, checked, nodeAt}
-use Rattle.program.specs.Places.{placeOf}
-use Rattle.program.specs.RangeLaws.{every}
+use Rattle.places.specs.Places.{placeOf}
+use Rattle.nodes.specs.RangeLaws.{every}
 use Rattle.program.specs.ScanLaws.{both}
-use Rattle.program.specs.GoodLaws.{good-program}
-use Rattle.program.specs.declared.nodes.Node.{Node}
-use Rattle.program.specs.declared.nodes.Node.the-variants.{VAR, INT, OP, MUX, READ, WRITE, EMBED, SHARE, REVEAL, LET, CASE, PAR, CALL}
+use Rattle.places.specs.GoodLaws.{good-program}
+use Rattle.nodes.specs.declared.Node.{Node}
+use Rattle.nodes.specs.declared.Node.the-variants.{VAR, INT, OP, MUX, READ, WRITE, EMBED, SHARE, REVEAL, LET, CASE, PAR, CALL}
 use Rattle.invariants.specs.InRange.{AllBytes, Short, RangedNode}
 use Rattle.invariants.proofs.EveryLaws.{every-at, every-drop}
 

@@ -9,11 +9,11 @@ use mir.Syntax.{w32}
 use mir.Val.{SFits}
 use Rattle.parties.specs.Sets.{all}
 use Rattle.program.specs.Check.{Program, good, checked}
-use Rattle.program.specs.GoodLaws.{Good, good-program}
+use Rattle.places.specs.GoodLaws.{Good, good-program}
 use Rattle.records.specs.Events.{written}
 use Rattle.records.specs.Ranged.{AllRanged}
-use Rattle.records.specs.Walk.{ends, walk}
-use Rattle.records.proofs.WrittenLaws.{before, walk-written}
+use Rattle.walk.specs.Walk.{ends, walk}
+use Rattle.walk.proofs.WrittenLaws.{before, walk-written}
 use Rattle.rules.specs.Moves.{start}
 use Rattle.rules.specs.Books.{opening}
 use Rattle.rules.specs.Single.{Single, going, ended, stopped, run, after}

@@ -6,7 +6,7 @@ use native.Mathlib.Nat.{mul-le-mul-right, suc-mul}
 use native.Mathlib.Omega.{arith}
 use lib.ListN.{length, getD, take, drop, length-append, length-take, length-drop}
 use lib.Seq.{sets, length-sets, sets-eq, ext-getD, getD-take, getD-drop, take-at, drop-at, drop-append-le, length-take-le}
-use Rattle.numbers.proofs.StretchLaws.{sets-before, sets-after}
+use Rattle.stretches.proofs.StretchLaws.{sets-before, sets-after}
 
 -- rows of one width do not meet
 pub rows : (j i k : ℕ) → j < i → j * k + k ≤ i * k

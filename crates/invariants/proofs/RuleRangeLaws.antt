@@ -12,21 +12,21 @@ use mir.Val.{SFits}
 use Rattle.numbers.specs.Integers.{operate, sameInteger}
 use Rattle.numbers.proofs.IntegerLaws.{operate-fits}
 use Rattle.parties.specs.Sets.{member, meet, join, isEmpty, sameSet, makeUp}
-use Rattle.parties.specs.declared.limits.Name.{Name}
-use Rattle.parties.specs.declared.limits.Party.{Party}
+use Rattle.limits.specs.declared.Name.{Name}
+use Rattle.limits.specs.declared.Party.{Party}
 use Rattle.parties.specs.declared.sets.PartySet.{PartySet}
 use Rattle.values.specs.Values.{place, moved, restrict, slice, held, hadBy}
-use Rattle.values.specs.Cells.{RangedValue}
-use Rattle.values.specs.Cells as Cells
+use Rattle.cells.specs.Cells.{RangedValue}
+use Rattle.cells.specs.Cells as Cells
 use Rattle.values.specs.declared.value.Value.{Value}
 use Rattle.values.specs.declared.value.Value.the-variants.{Nothing, Clear, Share}
 use Rattle.values.specs.declared.value.Held.{Held}
 use Rattle.values.specs.declared.value.Held.the-variants.{Number, Other}
-use Rattle.values.specs.declared.cells.Bound.{Bound}
-use Rattle.values.specs.declared.cells.Bound.the-variants.{Unbound, To}
-use Rattle.program.specs.Nodes.{operationOf}
-use Rattle.program.specs.declared.nodes.Node.{Node}
-use Rattle.program.specs.declared.nodes.Node.the-variants.{VAR, INT, OP, MUX, READ, WRITE, EMBED, SHARE, REVEAL, LET, CASE, PAR, CALL}
+use Rattle.cells.specs.declared.Bound.{Bound}
+use Rattle.cells.specs.declared.Bound.the-variants.{Unbound, To}
+use Rattle.nodes.specs.Nodes.{operationOf}
+use Rattle.nodes.specs.declared.Node.{Node}
+use Rattle.nodes.specs.declared.Node.the-variants.{VAR, INT, OP, MUX, READ, WRITE, EMBED, SHARE, REVEAL, LET, CASE, PAR, CALL}
 use Rattle.refusals.specs.Numbers.{wrongValue, wrongMode}
 use Rattle.rules.specs.Names.{Names, restricted, look, Looked, found, unbound, before, lookAll, namesOf, first, second, third}
 use Rattle.rules.specs.Rules.{unless, onTwo, onThree, mux, ifClear, alone, giverShares, otherShares, atShare, holderOpens, atReveal, goesIn, judge, withValues, rule}

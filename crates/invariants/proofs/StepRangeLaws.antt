@@ -10,16 +10,16 @@ use lib.IntN.{ℤ, pos}
 use lib.ListN.{length}
 use mir.Syntax.{w32}
 use mir.Val.{SFits}
-use Rattle.parties.specs.Limits.{maxFrames, maxNames}
+use Rattle.limits.specs.Limits.{maxFrames, maxNames}
 use Rattle.parties.specs.Sets.{member, lowest}
-use Rattle.parties.specs.declared.limits.Name.{Name}
+use Rattle.limits.specs.declared.Name.{Name}
 use Rattle.parties.specs.declared.sets.PartySet.{PartySet}
 use Rattle.values.specs.Values.{slice}
-use Rattle.values.specs.Cells.{RangedValue}
-use Rattle.values.specs.Cells as Cells
+use Rattle.cells.specs.Cells.{RangedValue}
+use Rattle.cells.specs.Cells as Cells
 use Rattle.values.specs.declared.value.Value.{Value}
 use Rattle.values.specs.declared.value.Value.the-variants.{Clear}
-use Rattle.values.specs.declared.cells.Bound.the-variants.{Unbound, To}
+use Rattle.cells.specs.declared.Bound.the-variants.{Unbound, To}
 use Rattle.program.specs.Check.{nodeAt}
 use Rattle.refusals.specs.Numbers.{noInput, noRoom, tooDeep, disagreement}
 use Rattle.records.specs.Events.{finished}

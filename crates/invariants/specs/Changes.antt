@@ -1,8 +1,8 @@
 -- A change of every value that names are bound to: a party's slices are such a change, and so is to hide numbers.
 use mathlib.Core.List.{map}
 use Rattle.values.specs.declared.value.Value.{Value}
-use Rattle.values.specs.declared.cells.Bound.{Bound}
-use Rattle.values.specs.declared.cells.Bound.the-variants.{Unbound, To}
+use Rattle.cells.specs.declared.Bound.{Bound}
+use Rattle.cells.specs.declared.Bound.the-variants.{Unbound, To}
 use Rattle.rules.specs.Names.{Names, Looked, found, unbound}
 use Rattle.rules.specs.Moves.{Frame}
 

@@ -6,10 +6,10 @@ use lib.IntN.{ℤ}
 use mir.Syntax.{w32}
 use mir.Val.{SFits}
 use Rattle.parties.specs.declared.sets.PartySet.{PartySet}
-use Rattle.values.specs.Cells.{RangedValue}
-use Rattle.values.specs.Cells as Cells
-use Rattle.program.specs.declared.nodes.Node.{Node}
-use Rattle.program.specs.declared.nodes.Node.the-variants.{VAR, INT, OP, MUX, READ, WRITE, EMBED, SHARE, REVEAL, LET, CASE, PAR, CALL}
+use Rattle.cells.specs.Cells.{RangedValue}
+use Rattle.cells.specs.Cells as Cells
+use Rattle.nodes.specs.declared.Node.{Node}
+use Rattle.nodes.specs.declared.Node.the-variants.{VAR, INT, OP, MUX, READ, WRITE, EMBED, SHARE, REVEAL, LET, CASE, PAR, CALL}
 use Rattle.records.specs.Ranged.{Ranged, AllRanged}
 use Rattle.records.specs.declared.events.Event.{Event}
 use Rattle.rules.specs.Names.{Names}

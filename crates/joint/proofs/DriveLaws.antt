@@ -5,7 +5,7 @@ use mathlib.Core.List.{List}
 use Prim.Native.Nat.{ℕ, _-_, _*_, _≤_}
 use lib.IntN.{ℤ}
 use lib.ListN.{length, replicate}
-use Rattle.parties.specs.Limits.{maxParties}
+use Rattle.limits.specs.Limits.{maxParties}
 use Rattle.parties.specs.Sets.{all}
 use Rattle.parties.specs.declared.sets.PartySet.{PartySet}
 use Rattle.program.specs.Check.{Program, good, checked, maxNodes}
@@ -18,12 +18,12 @@ use Rattle.rules.specs.Calls.{complete, stillOpen}
 use Rattle.rules.specs.Lent.{Lent, inputsOf}
 use Rattle.area.specs.declared.stand.Stand.{Stand}
 use Rattle.ledger.specs.Ledger.{noneUsed}
-use Rattle.ledger.specs.Inputs.{Divided, InputsHold}
-use Rattle.ledger.proofs.InputLaws.{inputs-start}
+use Rattle.inputs.specs.Inputs.{Divided, InputsHold}
+use Rattle.inputs.proofs.InputLaws.{inputs-start}
 use Rattle.ledger.proofs.OpeningLaws.{starts-at, zeros, opening-lengths, opening-records, opening-fits}
 use Rattle.meets.specs.Places.{settingOf, Given, Stands, InputsStand}
-use Rattle.joint.specs.Ends.{OpensAll}
-use Rattle.joint.specs.Ends as Ends
+use Rattle.ends.specs.Ends.{OpensAll}
+use Rattle.ends.specs.Ends as Ends
 use Rattle.joint.specs.Runs.{told, RunsTurns, Finishes, Drives}
 use Rattle.joint.specs.declared.runs.Answer.{Answer}
 use Rattle.joint.specs.declared.runs.Answer.the-variants.{Complete, Open}

@@ -1,4 +1,3 @@
-pub mod EndsLaws
 pub mod TurnLaws
 pub mod DriveLaws
 pub mod CallLaws

@@ -2,18 +2,18 @@
 ghost use mathlib.Core.Path.{_≡_};
 ghost use Prim.Native.Nat.{_*_, _≤_};
 ghost use lib.ListN.{length};
-ghost use Rattle.parties.specs.Limits.{maxParties};
+ghost use Rattle.limits.specs.Limits.{maxParties};
 ghost use Rattle.program.specs.Answer.{accepted, checkAnswer};
 ghost use Rattle.rules.specs.Lent.{areaSize, sum};
 ghost use Rattle.rules.specs.Calls.{maxTurns, badTurnFrom, jointCall};
 ghost use mathlib.Core.Option.{none};
 ghost use Rattle.sites.specs.Turns.{once};
 ghost use Rattle.joint.specs.Runs.{AllBelow, RunsTurns, Drives, Is};
-use crate::ends::BadTurn;
 use area::stand::AREA;
 use area::stand::Stand;
-use ledger::inputs::counts_fit;
-use parties::limits::Depth;
+use ends::BadTurn;
+use inputs::counts_fit;
+use limits::Depth;
 use parties::sets::PartySet;
 use program::check::Verdict;
 use records::events::Event;
@@ -89,7 +89,7 @@ fn drive(
 {
     let mut at = [0usize; 16];
     let mut end = [0usize; 16];
-    ledger::inputs::divide(counts, inputs, &mut at, &mut end);
+    inputs::divide(counts, inputs, &mut at, &mut end);
     ledger::entries::clear_lengths(n, lengths);
     let many = nodes as usize;
     let start = Stand {
@@ -97,7 +97,7 @@ fn drive(
         mode: PartySet::all(n),
         depth: Depth { frames: 0 },
     };
-    crate::ends::open_all(program, many, start, n, work);
+    ends::open_all(program, many, start, n, work);
     let count = run_turns(
         program,
         many,
@@ -111,7 +111,7 @@ fn drive(
         lengths,
         work,
     );
-    if crate::ends::all_finished(n, work) {
+    if ends::all_finished(n, work) {
         Answer::Complete(count)
     } else {
         Answer::Open(count)
@@ -156,7 +156,7 @@ fn run_lent(
         lengths,
         work,
     );
-    numbers::stretches::zero(work);
+    stretches::zero(work);
     answer
 }
 
@@ -178,7 +178,7 @@ fn run_good(
     if !counts_fit(counts, n, inputs.len()) {
         return Answer::Refused(refusals::BAD_COUNTS, 0);
     }
-    match crate::ends::bad_turn(turns, n) {
+    match ends::bad_turn(turns, n) {
         BadTurn::At(index) => Answer::Refused(refusals::BAD_TURN, index),
         BadTurn::None => run_lent(
             program,

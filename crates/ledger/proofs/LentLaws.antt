@@ -7,10 +7,10 @@ use native.Mathlib.Omega.{arith}
 use borrow.Author.Tests.{le-leb, lt-leb, eqb-true, eq-eqb}
 use lib.Dec.{eqb}
 use lib.ListN.{length}
-use Rattle.parties.specs.Limits.{maxParties}
+use Rattle.limits.specs.Limits.{maxParties}
 use Rattle.program.specs.Check.{Program, Checked, good, bad, checked, maxNodes}
 use Rattle.program.specs.Answer.{accepted, refused, answerOf, checkAnswer}
-use Rattle.program.specs.GoodLaws.{good-program}
+use Rattle.places.specs.GoodLaws.{good-program}
 use Rattle.program.specs.ScanLaws.{both}
 use Rattle.records.specs.Events.{heldBack}
 use Rattle.refusals.specs.Numbers.{badProgram}

@@ -4,6 +4,5 @@ pub mod RoomLaws
 pub mod WriteLaws
 pub mod LedgerLaws
 pub mod EndLaws
-pub mod InputLaws
 pub mod OpeningLaws
 pub mod LentLaws

@@ -6,7 +6,7 @@ use native.Mathlib.Decide.{decLt}
 use native.Mathlib.Omega.{arith}
 use lib.ListN.{length, getD, set, length-append}
 use lib.Seq.{sets, set-set, set-comm}
-use Rattle.numbers.proofs.StretchLaws.{sets-append}
+use Rattle.stretches.proofs.StretchLaws.{sets-append}
 use Rattle.records.specs.Events.{written}
 use Rattle.rules.specs.Books.{Books, used}
 use Rattle.rules.specs.Lent.{recordsLeft, lengthsLeft}

@@ -1,3 +1,2 @@
 pub mod Ledger
 pub mod Writes
-pub mod Inputs

@@ -2,12 +2,12 @@
 ghost use mathlib.Core.Path.{_≡_};
 ghost use Prim.Native.Nat.{_+_, _*_, _≤_, _<_};
 ghost use lib.ListN.{length, getD};
-ghost use Rattle.parties.specs.Limits.{maxParties};
+ghost use Rattle.limits.specs.Limits.{maxParties};
 ghost use Rattle.records.specs.Events.{written};
 ghost use Rattle.rules.specs.Books.{eventFor};
 ghost use Rattle.ledger.specs.Ledger.{noneUsed, roomsFor, NotesAll, FinishesAll};
 ghost use Rattle.ledger.specs.Writes.{Writes, mayNote, noting, finishing};
-use parties::limits::Party;
+use limits::Party;
 use parties::sets::PartySet;
 use records::events::Appended;
 use records::events::Event;

@@ -4,9 +4,9 @@ use Prim.Native.Nat.{ℕ, _+_, _*_, _≤_}
 use mathlib.Core.List.{List, [], _∷_, _++_}
 use native.Mathlib.Omega.{arith}
 use lib.ListN.{length, length-append, length-drop}
-use Rattle.records.specs.Order.{beyond, orderOf, continued}
-use Rattle.records.specs.declared.order.Order.{Order}
-use Rattle.records.specs.declared.order.Order.the-variants.{FirstLonger, SecondLonger, Equal, Neither}
+use Rattle.order.specs.Order.{beyond, orderOf, continued}
+use Rattle.order.specs.declared.Order.{Order}
+use Rattle.order.specs.declared.Order.the-variants.{FirstLonger, SecondLonger, Equal, Neither}
 use Rattle.text.specs.Text.{ascii, hex}
 use Rattle.text.specs.TextLaws.{decimal-short, hex-length, spaced-short}
 use Rattle.listing.specs.Lines.{marked, orderWord}

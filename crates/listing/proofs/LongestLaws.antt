@@ -7,10 +7,10 @@ use native.Mathlib.Omega.{arith}
 use lib.ListN.{length, length-append}
 use Rattle.refusals.specs.Numbers.{notAnEvent}
 use Rattle.records.specs.Events.{eventBytes}
-use Rattle.records.specs.Walk.{isEventKind, bodyWidth, eventFrom, isWhole, stops, andThen, walkFrom, walk}
-use Rattle.records.specs.WalkLaws.{whole-fits}
-use Rattle.records.specs.Order.{orderOf, continued}
-use Rattle.records.proofs.StepLaws.{kind-range}
+use Rattle.walk.specs.Walk.{isEventKind, bodyWidth, eventFrom, isWhole, stops, andThen, walkFrom, walk}
+use Rattle.walk.specs.WalkLaws.{whole-fits}
+use Rattle.order.specs.Order.{orderOf, continued}
+use Rattle.walk.proofs.StepLaws.{kind-range}
 use Rattle.text.specs.Text.{ascii}
 use Rattle.text.specs.TextLaws.{decimal-short, spaced-short}
 use Rattle.listing.specs.Lines.{caseLine, kindOf, walkWords, walkLine, orderLine}

@@ -7,12 +7,12 @@ use native.Mathlib.Omega.{arith}
 use lib.Dec.{leb}
 use lib.ListN.{length, getD, drop, length-append}
 use Rattle.refusals.specs.Numbers.{notAnEvent}
-use Rattle.numbers.specs.Words.{lowFirst}
+use Rattle.words.specs.Words.{lowFirst}
 use Rattle.records.specs.Events.{eventBytes}
 use Rattle.records.specs.EventLaws.{sized, event-length}
-use Rattle.records.specs.Walk.{isEventKind, bodyWidth, eventFrom, isWhole, event, end, refused, stepOf, stepAnswer, walkFrom, walk}
-use Rattle.records.specs.WalkLaws.{walk-steps, step-on}
-use Rattle.records.proofs.StepLaws.{kind-range}
+use Rattle.walk.specs.Walk.{isEventKind, bodyWidth, eventFrom, isWhole, event, end, refused, stepOf, stepAnswer, walkFrom, walk}
+use Rattle.walk.specs.WalkLaws.{walk-steps, step-on}
+use Rattle.walk.proofs.StepLaws.{kind-range}
 use Rattle.records.specs.declared.events.Event.{Event}
 use Rattle.records.specs.declared.events.Event.the-variants.{Read, Wrote, Shared, Opened, Passed, Finished, Stopped}
 use Rattle.text.specs.Text.{ascii, Puts}

@@ -3,11 +3,11 @@ use Prim.Native.Nat.{ℕ, _+_}
 use mathlib.Core.List.{List, [], _∷_, _++_}
 use lib.ListN.{length, getD}
 use Rattle.records.specs.Events.{eventBytes}
-use Rattle.records.specs.Walk.{Walked, ends, stops, andThen, walk}
-use Rattle.records.specs.Order.{orderOf, continued}
+use Rattle.walk.specs.Walk.{Walked, ends, stops, andThen, walk}
+use Rattle.order.specs.Order.{orderOf, continued}
 use Rattle.records.specs.declared.events.Event.{Event}
-use Rattle.records.specs.declared.order.Order.{Order}
-use Rattle.records.specs.declared.order.Order.the-variants.{FirstLonger, SecondLonger, Equal, Neither}
+use Rattle.order.specs.declared.Order.{Order}
+use Rattle.order.specs.declared.Order.the-variants.{FirstLonger, SecondLonger, Equal, Neither}
 use Rattle.text.specs.Text.{ascii, decimal, hex, spaced}
 
 -- `case I`

@@ -2,10 +2,10 @@
 use mathlib.Core.Path.{_≡_, refl}
 use Prim.Native.Nat.{ℕ}
 use mathlib.Core.List.{List, [], _∷_}
-use Rattle.numbers.specs.Words.{lowFirst}
+use Rattle.words.specs.Words.{lowFirst}
 use Rattle.records.specs.Events.{eventBytes}
-use Rattle.records.specs.Walk.{bodyWidth, eventFrom, isWhole, walkFrom, walk}
-use Rattle.records.specs.Order.{begins, orderOf, continued}
+use Rattle.walk.specs.Walk.{bodyWidth, eventFrom, isWhole, walkFrom, walk}
+use Rattle.order.specs.Order.{begins, orderOf, continued}
 use Rattle.text.specs.Text.{ascii, decimalWithin, decimal, hexDigit, hex, spaced}
 use Rattle.listing.specs.Lines.{caseLine, marked, walkWords, walkLine, orderWord, orderLine}
 

@@ -1,20 +1,26 @@
 -- Who is at a meeting, in the rules' terms. A reader's answer r is said of the sites that the lengths and the working area hold.
 use mathlib.Core.Path.{_≡_}
 use Prim.Native.Nat.{ℕ, _<_}
-use mathlib.Core.Bool.{Bool, not, _||_, cond}
+use mathlib.Core.Bool.{Bool, cond}
 use mathlib.Core.List.{List}
 use lib.IntN.{ℤ}
 use lib.ListN.{length}
-use Rattle.parties.specs.Sets.{member}
 use Rattle.parties.specs.declared.sets.PartySet.{PartySet}
 use Rattle.program.specs.Check.{Program, good, checked}
 use Rattle.rules.specs.Single.{allOf}
 use Rattle.rules.specs.Joint.{Site, Sites, Attendance, away, there, attendance, isThere, orElse, brought, agrees, allAgree}
 use Rattle.rules.specs.declared.effects.Meeting.{Meeting}
 use Rattle.rules.specs.declared.effects.Offer.{Offer}
+use Rattle.attends.specs.Attends.{told}
+use Rattle.attends.specs.declared.Attendance as Code
 use Rattle.meets.specs.Places.{settingOf, Sits}
 use Rattle.meets.specs.declared.present.Gathered.{Gathered}
 use Rattle.meets.specs.declared.present.Gathered.the-variants.{Missing, All}
+
+-- site P's own area and the length of its own record say whether it is at the node e in mode m
+pub record Attends (bs : List ℕ) (nodes e : ℕ) (m : PartySet) (P room : ℕ) (a : Code.Attendance) (lengths work : List ℕ) : Type 0 where
+  pub comes : (p : Program) → checked bs ≡ good p → length (p .nodes) ≡ nodes → (s : Site) → Sits bs nodes P s lengths work
+      → told a ≡ attendance (settingOf p room) e m P s
 
 -- one member's part in what is gathered, with what was brought before
 abbrev pub adding : Offer → Attendance → Gathered
@@ -27,11 +33,11 @@ gathered n m f = cond (allOf n m (λ P. isThere (f P))) (All (brought n m f)) Mi
 
 pub record Brings (bs : List ℕ) (nodes e : ℕ) (m : PartySet) (P room : ℕ) (before : Offer) (r : Gathered) (lengths work : List ℕ) : Type 0 where
   pub comes : (p : Program) → checked bs ≡ good p → length (p .nodes) ≡ nodes → (s : Site) → Sits bs nodes P s lengths work
-      → r ≡ cond (member P m) (adding before (attendance (settingOf p room) e m P s)) (All before)
+      → r ≡ adding before (attendance (settingOf p room) e m P s)
 
 pub record MemberAgrees (bs : List ℕ) (nodes e : ℕ) (m : PartySet) (P room : ℕ) (i : ℤ) (h : PartySet) (r : Bool) (lengths work : List ℕ) : Type 0 where
   pub comes : (p : Program) → checked bs ≡ good p → length (p .nodes) ≡ nodes → (s : Site) → Sits bs nodes P s lengths work
-      → r ≡ (not (member P m) || agrees i h P (attendance (settingOf p room) e m P s))
+      → r ≡ agrees i h P (attendance (settingOf p room) e m P s)
 
 -- the sites below n that the lengths and the working area hold, and their program
 pub record Sitting (bs : List ℕ) (nodes n : ℕ) (lengths work : List ℕ) : Type 0 where

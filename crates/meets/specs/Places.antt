@@ -11,8 +11,8 @@ use Rattle.rules.specs.Single.{Setting}
 use Rattle.rules.specs.Joint.{Site, Sites, running, over, bookOf}
 use Rattle.invariants.specs.Room.{Fits}
 use Rattle.ledger.specs.Ledger.{Holds}
-use Rattle.area.specs.Table.{PlacesIn}
-use Rattle.area.specs.Seats.{siteOf}
+use Rattle.table.specs.Table.{PlacesIn}
+use Rattle.seats.specs.Seats.{siteOf}
 
 -- the P-th row of a size, as it is lent
 abbrev pub row : (size P : ℕ) → List ℕ → List ℕ

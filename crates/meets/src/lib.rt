@@ -1,2 +1,2 @@
-// Who is at a meeting: all sites, side by side in what was lent, are looked at, and nothing is written.
+// Who is at a meeting: the members, side by side in what was lent with all sites, are looked at, and nothing is written.
 pub mod present; // present.rt: who is there, what they bring, and whether they agree

@@ -1,15 +1,15 @@
 // Who is at a meeting, what they bring, and whether they agree. Nothing is written here.
 ghost use Prim.Native.Nat.{_*_, _+_, _≤_, _<_};
 ghost use lib.ListN.{length};
-ghost use Rattle.parties.specs.Limits.{maxParties};
+ghost use Rattle.limits.specs.Limits.{maxParties};
 ghost use Rattle.rules.specs.Lent.{areaSize};
-ghost use Rattle.meets.specs.Meets.{Brings, Gathers, MemberAgrees, AllAgree, Agreed};
+ghost use Rattle.meets.specs.Meets.{Attends, Brings, Gathers, MemberAgrees, AllAgree, Agreed};
 use area::stand::AREA;
-use parties::limits::Party;
+use attends::Attendance;
+use limits::Party;
 use parties::sets::PartySet;
 use rules::effects::Meeting;
 use rules::effects::Offer;
-use site::attends::Attendance;
 
 // What the members bring, or that one is away.
 pub enum Gathered {
@@ -17,7 +17,29 @@ pub enum Gathered {
     All(Offer),
 }
 
-// With what was brought before: what site p brings if it is a member.
+// Whether site p is at the node e in mode m, by its own area and the length of its own record.
+fn attendance_at(
+    program: &[u8],
+    nodes: usize,
+    e: u16,
+    m: PartySet,
+    p: u8,
+    room: usize,
+    lengths: &[usize],
+    work: &[u8],
+) -> Attendance
+    requires { ⌜ (p < length (now lengths)) × (p * areaSize + areaSize ≤ length (now work)) ⌝ }
+    ensures { λ a. ⌜ Attends (now (program .entry)) nodes e m p room a (now (lengths .entry)) (now (work .entry)) ⌝ }
+{
+    let i = p as usize;
+    let party = Party { index: p };
+    let from = i * AREA;
+    let to = from + AREA;
+    let used = lengths[i];
+    attends::attendance_of(program, nodes, e, m, party, room, used, &work[from..to])
+}
+
+// With what was brought before: what the member p brings, or that it is away.
 fn brings(
     program: &[u8],
     nodes: usize,
@@ -32,24 +54,8 @@ fn brings(
     requires { ⌜ (p < length (now lengths)) × (p * areaSize + areaSize ≤ length (now work)) ⌝ }
     ensures { λ r. ⌜ Brings (now (program .entry)) nodes e m p room before r (now (lengths .entry)) (now (work .entry)) ⌝ }
 {
-    let i = p as usize;
-    let party = Party { index: p };
-    if !m.has(party) {
-        return Gathered::All(before);
-    }
-    let from = i * AREA;
-    let to = from + AREA;
-    let used = lengths[i];
-    let Attendance::There(offer) = site::attends::attendance_of(
-        program,
-        nodes,
-        e,
-        m,
-        party,
-        room,
-        used,
-        &work[from..to],
-    ) else {
+    let Attendance::There(offer) = attendance_at(program, nodes, e, m, p, room, lengths, work)
+    else {
         return Gathered::Missing;
     };
     let Offer::Secret(number, bringers) = offer else {
@@ -73,19 +79,19 @@ pub fn gather(
     ensures { λ r. ⌜ Gathers (now (program .entry)) nodes e m n room r (now (lengths .entry)) (now (work .entry)) ⌝ }
 {
     let mut brought = Offer::Empty;
-    let mut p: u8 = 0;
+    let mut p = m.next(0);
     while p < n {
         let Gathered::All(more) = brings(program, nodes, e, m, p, room, brought, lengths, work)
         else {
             return Gathered::Missing;
         };
         brought = more;
-        p += 1;
+        p = m.next(p + 1);
     }
     Gathered::All(brought)
 }
 
-// Site p is no member of m, or agrees with the number and its holders.
+// The member p agrees with the number and its holders.
 fn member_agrees(
     program: &[u8],
     nodes: usize,
@@ -101,16 +107,9 @@ fn member_agrees(
     requires { ⌜ (p < length (now lengths)) × (p * areaSize + areaSize ≤ length (now work)) ⌝ }
     ensures { λ r. ⌜ MemberAgrees (now (program .entry)) nodes e m p room number holders r (now (lengths .entry)) (now (work .entry)) ⌝ }
 {
-    let i = p as usize;
     let party = Party { index: p };
-    if !m.has(party) {
-        return true;
-    }
-    let from = i * AREA;
-    let to = from + AREA;
-    let used = lengths[i];
-    let a = site::attends::attendance_of(program, nodes, e, m, party, room, used, &work[from..to]);
-    site::attends::agrees(number, holders, party, a)
+    let a = attendance_at(program, nodes, e, m, p, room, lengths, work);
+    attends::agrees(number, holders, party, a)
 }
 
 fn all_agree(
@@ -128,7 +127,7 @@ fn all_agree(
     requires { ⌜ (n ≤ maxParties) × (n ≤ length (now lengths)) × (n * areaSize ≤ length (now work)) ⌝ }
     ensures { λ r. ⌜ AllAgree (now (program .entry)) nodes e m n room number holders r (now (lengths .entry)) (now (work .entry)) ⌝ }
 {
-    let mut p: u8 = 0;
+    let mut p = m.next(0);
     while p < n {
         if !member_agrees(
             program,
@@ -144,7 +143,7 @@ fn all_agree(
         ) {
             return false;
         }
-        p += 1;
+        p = m.next(p + 1);
     }
     true
 }

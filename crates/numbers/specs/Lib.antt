@@ -1,3 +1,1 @@
 pub mod Integers
-pub mod Words
-pub mod Stretches

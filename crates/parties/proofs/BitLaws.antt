@@ -1,15 +1,15 @@
 -- What the machine's counts and shifts of 16 bits say of a party set. Assumes nothing.
 use mathlib.Core.Path.{_≡_, refl, sym, ap, _∙_}
 use mathlib.Core.Bool.{Bool, true, false, cond}
-use Prim.Native.Nat.{ℕ, zero, suc, _+_, _-_, _*_, _/_, _%_, _^_, _≤_, _<_}
+use Prim.Native.Nat.{ℕ, zero, suc, _+_, _-_, _*_, _/_, _%_, _^_, _≤_, _<_, min}
 use native.Mathlib.Nat.{pow-suc, div-div-eq-div-mul, div-one, one-mul, mod-eq-of-lt, div-eq-of-lt, div-lt-iff-lt-mul}
 use native.Mathlib.Decide.{decLt}
 use native.Mathlib.Omega.{arith}
 use borrow.Author.Tests.{eq-eqb, ne-eqb, lt-ltb, le-ltb}
-use lib.Count.{ones, ones-step, trailingZeros, under}
+use lib.Count.{ones, ones-step, trailingZeros, trailing-le, under}
 use lib.Dec.{eqb, ltb}
 use lib.Pow.{pow-lt, pow-mono, pow-pos}
-use Rattle.parties.specs.Sets.{bit, member, countFrom, count, lowestFrom, lowest, within, only, all, join, sameSet, makeUp}
+use Rattle.parties.specs.Sets.{bit, member, countFrom, count, lowestFrom, lowest, nextFrom, within, only, all, join, sameSet, makeUp}
 use Rattle.parties.specs.SetLaws.{bit-high, member-join, member-only, same-set}
 use Rattle.parties.specs.declared.sets.PartySet.{PartySet}
 
@@ -48,6 +48,14 @@ unfolding lowest
 zeros-are-below s =
     let e : s .bits / 2 ^ 0 ≡ s .bits = div-one (s .bits) in
     ap (λ (n : ℕ). trailingZeros 16 n) (sym e) ∙ omega (arith, zeros-from 16 0 s)
+
+-- the zeros from bit i on, below the next one
+pub zeros-are-between : (i : ℕ) (s : PartySet) → min (i + trailingZeros 16 (s .bits / 2 ^ i)) 16 ≡ nextFrom i s
+unfolding nextFrom
+zeros-are-between i s = ap (λ (n : ℕ). min n 16) (zeros-from 16 i s)
+
+pub zeros-fit : (i n : ℕ) → i < 16 → i + trailingZeros 16 n < 256
+zeros-fit i n h = omega (arith, trailing-le 16 n)
 
 -- no party above 15 is in a set of 16 bits
 pub none-above : (i : ℕ) (s : PartySet) → s .bits < 65536 → 16 ≤ i → false ≡ member i s

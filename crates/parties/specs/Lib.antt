@@ -1,4 +1,3 @@
-pub mod Limits
 pub mod Sets
 pub mod SetLaws
 pub mod SetBytes

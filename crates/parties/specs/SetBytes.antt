@@ -1,7 +1,7 @@
 -- "A party set is two bytes, bit i for party i." (document 01, "Program bytes")
 use Prim.Native.Nat.{ℕ}
 use mathlib.Core.List.{List}
-use Rattle.numbers.specs.Words.{lowFirst, numberAt}
+use Rattle.words.specs.Words.{lowFirst, numberAt}
 use Rattle.parties.specs.declared.sets.PartySet.{PartySet}
 
 abbrev pub setBytes : PartySet → List ℕ

@@ -10,8 +10,8 @@ use lib.Arith.{digits-div, digits-mod, bin-ind, dbl-pred}
 use lib.Pow.{pow-pos, pow-mono}
 use lib.Bits.{bitAnd, bitOr, and-shr, or-shr, and-step, or-step}
 use lib.Dec.{eqb, lit<, eqb·suc-suc, eqb·zero-suc, eqb·suc-zero}
-use Rattle.parties.specs.Limits.{maxParties}
-use Rattle.parties.specs.Sets.{bit, member, meet, join, isEmpty, sameSet, none, only, all, within, countFrom, count, lowestFrom, lowest, makeUp}
+use Rattle.limits.specs.Limits.{maxParties}
+use Rattle.parties.specs.Sets.{bit, member, meet, join, isEmpty, sameSet, none, only, all, within, countFrom, count, lowestFrom, lowest, nextFrom, makeUp}
 use Rattle.parties.specs.declared.sets.PartySet.{PartySet}
 
 -- ---- one bit
@@ -121,6 +121,48 @@ pub same-self : (s : PartySet) → sameSet s s ≡ true
 unfolding sameSet
 same-self s = eq-eqb (s .bits) (s .bits) refl
 
+-- ---- the next party of a set
+
+-- r is the lowest of the k parties from i on, or i + k
+record Lowest (k i : ℕ) (s : PartySet) (r : ℕ) : Type 0 where
+  least : i ≤ r
+  one : r < i + k → member r s ≡ true
+  passed : (j : ℕ) → i ≤ j → j < r → member j s ≡ false
+
+lowest-from : (k i : ℕ) (s : PartySet) → Lowest k i s (lowestFrom k i s)
+unfolding lowestFrom
+lowest-from zero i s = record { least = omega arith; one = λ h. absurd (omega arith); passed = λ j h l. absurd (omega arith) }
+lowest-from (suc k) i s = go (member i s) refl (lowest-from k (suc i) s)
+  where
+    go : (t : Bool) → member i s ≡ t → Lowest k (suc i) s (lowestFrom k (suc i) s) → Lowest (suc k) i s (cond t i (lowestFrom k (suc i) s))
+    go true q r = record { least = omega arith; one = λ h. q; passed = λ j h l. absurd (omega arith) }
+    go false q r =
+        record {
+          least = omega (arith, r .least);
+          one = λ h. r .one (omega arith);
+          passed = λ j h l. elim (decLt i j) [
+            | yes o ↦ r .passed j o l
+            | no o ↦ let e : j ≡ i = omega arith in rw e q
+          ];
+        }
+
+-- it is no lower than i, or it is 16
+pub next-least : (i : ℕ) (s : PartySet) → min i maxParties ≤ nextFrom i s
+unfolding nextFrom
+next-least i s = omega (arith, lowest-from 16 i s .least)
+
+-- it is in the set where it is below 16
+pub next-member : (i : ℕ) (s : PartySet) → nextFrom i s < maxParties → member (nextFrom i s) s ≡ true
+unfolding nextFrom
+next-member i s h =
+    let e : lowestFrom 16 i s ≡ min (lowestFrom 16 i s) 16 = omega arith in
+    rw e at (lowest-from 16 i s .one (omega arith))
+
+-- no party is passed over
+pub next-none : (i j : ℕ) (s : PartySet) → i ≤ j → j < nextFrom i s → member j s ≡ false
+unfolding nextFrom
+next-none i j s h l = lowest-from 16 i s .passed j h (omega arith)
+
 -- ---- "m has one party": a set of count 1 has one member, and that is the lowest
 
 some-counted : (k i j : ℕ) (s : PartySet) → i ≤ j → j < i + k → bit j (s .bits) ≡ 1 → 1 ≤ countFrom k i s
@@ -160,19 +202,18 @@ no-bit : (i : ℕ) (s : PartySet) → member i s ≡ false → bit i (s .bits) �
 unfolding member
 no-bit i s q = omega (arith, eqb-false (bit i (s .bits)) 1 q)
 
-counted-some : (k i : ℕ) (s : PartySet) → 1 ≤ countFrom k i s → (member (lowestFrom k i s) s ≡ true) × (lowestFrom k i s < i + k)
+counted-some : (k i : ℕ) (s : PartySet) → 1 ≤ countFrom k i s → lowestFrom k i s < i + k
 unfolding countFrom lowestFrom
 counted-some zero i s h = absurd (omega arith)
 counted-some (suc k) i s h = go (member i s) refl (counted-some k (suc i) s)
   where
-    go : (t : Bool) → member i s ≡ t → (1 ≤ countFrom k (suc i) s → (member (lowestFrom k (suc i) s) s ≡ true) × (lowestFrom k (suc i) s < suc i + k))
-        → (member (cond t i (lowestFrom k (suc i) s)) s ≡ true) × (cond t i (lowestFrom k (suc i) s) < i + suc k)
-    go true q r = (q, omega arith)
-    go false q r = let l = r (omega (arith, no-bit i s q)) in (l .0, omega (arith, l .1))
+    go : (t : Bool) → member i s ≡ t → (1 ≤ countFrom k (suc i) s → lowestFrom k (suc i) s < suc i + k) → cond t i (lowestFrom k (suc i) s) < i + suc k
+    go true q r = omega arith
+    go false q r = omega (arith, r (omega (arith, no-bit i s q)))
 
 pub lowest-one : (m : PartySet) → count m ≡ 1 → (member (lowest m) m ≡ true) × (lowest m < maxParties)
 unfolding count lowest
-lowest-one m e = let l = counted-some 16 0 m (omega arith) in (l .0, omega (arith, l .1))
+lowest-one m e = let l = counted-some 16 0 m (omega arith) in (lowest-from 16 0 m .one l, omega arith)
 
 pub only-member : (s : PartySet) (i : ℕ) → count s ≡ 1 → i < maxParties → member i s ≡ true → lowest s ≡ i
 only-member s i e h m = let l = lowest-one s e in sole-member s (lowest s) i e (l .1) (l .0) h m

@@ -1,9 +1,9 @@
 -- Party sets: "A party set is two bytes, bit i for party i" (document 01, "Program bytes").
-use Prim.Native.Nat.{ℕ, zero, suc, _+_, _-_, _/_, _%_, _^_}
+use Prim.Native.Nat.{ℕ, zero, suc, _+_, _-_, _/_, _%_, _^_, min}
 use mathlib.Core.Bool.{Bool, cond}
 use lib.Bits.{bitAnd, bitOr}
 use lib.Dec.{eqb, ltb}
-use Rattle.parties.specs.Limits.{maxParties}
+use Rattle.limits.specs.Limits.{maxParties}
 use Rattle.parties.specs.declared.sets.PartySet.{PartySet}
 
 -- bit i of a number
@@ -56,6 +56,10 @@ lowestFrom (suc k) i s = cond (member i s) i (lowestFrom k (suc i) s)
 
 unfoldable pub lowest : PartySet → ℕ
 lowest s = lowestFrom maxParties 0 s
+
+-- the lowest party in s at i or above, and 16 where there is none
+unfoldable pub nextFrom : ℕ → PartySet → ℕ
+nextFrom i s = min (lowestFrom maxParties i s) maxParties
 
 -- "a and q together are exactly m"
 unfoldable pub makeUp : ℕ → PartySet → PartySet → Bool

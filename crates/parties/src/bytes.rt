@@ -11,7 +11,7 @@ pub fn load_set(s: &[u8], at: usize) -> PartySet
     ensures { λ r. ⌜ r ≡ setAt (now (s .entry)) at ⌝ }
 {
     PartySet {
-        bits: numbers::words::load2(s, at),
+        bits: words::load2(s, at),
     }
 }
 
@@ -19,5 +19,5 @@ pub fn store_set(s: &mut [u8], at: usize, q: PartySet)
     requires { ⌜ at + 2 ≤ length (now s) ⌝ }
     ensures { λ _. ⌜ now (s .exit) ≡ sets (now (s .entry)) at (setBytes q) ⌝ }
 {
-    numbers::words::store2(s, at, q.bits);
+    words::store2(s, at, q.bits);
 }

@@ -2,9 +2,9 @@
 ghost use mathlib.Core.Path.{_≡_};
 ghost use mathlib.Core.Bool.{Bool};
 ghost use Prim.Native.Nat.{_<_, _≤_};
-ghost use Rattle.parties.specs.Limits.{maxParties};
-ghost use Rattle.parties.specs.Sets.{member, meet, join, isEmpty, sameSet, count, lowest, only, all, within, makeUp};
-use crate::limits::Party;
+ghost use Rattle.limits.specs.Limits.{maxParties};
+ghost use Rattle.parties.specs.Sets.{member, meet, join, isEmpty, sameSet, count, lowest, nextFrom, only, all, within, makeUp};
+use limits::Party;
 
 pub struct PartySet {
     pub bits: u16,
@@ -62,6 +62,21 @@ impl PartySet {
         ensures { λ r. ⌜ r ≡ lowest self ⌝ }
     {
         u16::trailing_zeros(self.bits)
+    }
+
+    // The lowest party in the set at `from` or above; 16 where there is none.
+    pub fn next(self, from: u8) -> u8
+        ensures { λ r. ⌜ r ≡ nextFrom from self ⌝ }
+    {
+        let bits = self.bits;
+        if from < Party::MAX {
+            let above = bits >> from;
+            let p = from + u16::trailing_zeros(above) as u8;
+            if p < Party::MAX {
+                return p;
+            }
+        }
+        Party::MAX
     }
 
     // The set holds only parties below n.

@@ -5,10 +5,10 @@ use mathlib.Core.List.{List, [], _∷_, _++_}
 use lib.IntN.{pos}
 use lib.ListN.{replicate}
 use Rattle.numbers.specs.Integers.{reduced, operate}
-use Rattle.numbers.specs.Words.{lowFirst, numberAt}
+use Rattle.words.specs.Words.{lowFirst, numberAt}
 use Rattle.parties.specs.Sets.{member, meet, join, isEmpty, sameSet, only, all, within, countFrom, count, lowestFrom, lowest, makeUp}
 use Rattle.values.specs.Values.{place, moved, restrict, slice, held, hadBy}
-use Rattle.program.specs.Nodes.{bodyLength, operationOf, nodeOf}
+use Rattle.nodes.specs.Nodes.{bodyLength, operationOf, nodeOf}
 use Rattle.program.specs.Check.{fits, isGood, scan, badCall, verdict, checked, nodeAt}
 use Rattle.records.specs.Events.{eventBytes, written, finished, hasRoom}
 use Rattle.rules.specs.Names.{noneBound, bind, look, lookAll, namesOf}

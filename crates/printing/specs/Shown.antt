@@ -2,7 +2,7 @@
 use Prim.Native.Nat.{ℕ, _+_, _*_, _/_, _≤_, _<_}
 use mathlib.Core.List.{List, []}
 use lib.ListN.{length, getD}
-use Rattle.parties.specs.Limits.{maxParties}
+use Rattle.limits.specs.Limits.{maxParties}
 use Rattle.rules.specs.Lent.{Left}
 use Rattle.rules.specs.Calls.{SingleAnswer, JointAnswer}
 use Rattle.single.specs.Runs as SingleRuns

@@ -10,9 +10,9 @@ fn put_one(word: &[u8], x: u64, out: &mut [u8], at: usize) -> usize
     requires { ⌜ at + (length (now word) + 21) ≤ length (now out) ⌝ }
     ensures { λ r. ⌜ Puts (oneNumber (now (word .entry)) x) at r (now (out .entry)) (now (out .exit)) ⌝ }
 {
-    let end = text::words::put(out, at, word);
+    let end = text::plain::put(out, at, word);
     let end_x = text::decimals::put_decimal(out, end, x);
-    text::words::put(out, end_x, b"\n")
+    text::plain::put(out, end_x, b"\n")
 }
 
 // A line of a word and two numbers.
@@ -20,7 +20,7 @@ fn put_two(word: &[u8], x: u64, y: u64, out: &mut [u8], at: usize) -> usize
     requires { ⌜ at + (length (now word) + 42) ≤ length (now out) ⌝ }
     ensures { λ r. ⌜ Puts (twoNumbers (now (word .entry)) x y) at r (now (out .entry)) (now (out .exit)) ⌝ }
 {
-    let end = text::words::put(out, at, word);
+    let end = text::plain::put(out, at, word);
     let end_x = text::decimals::put_decimal(out, end, x);
     put_one(b" ", y, out, end_x)
 }
@@ -32,7 +32,7 @@ fn put_party(party: usize, bytes: &[u8], out: &mut [u8], at: usize) -> usize
 {
     let end = text::decimals::put_decimal(out, at, party as u64);
     let end_bytes = text::hex::put_spaced(out, end, bytes);
-    text::words::put(out, end_bytes, b"\n")
+    text::plain::put(out, end_bytes, b"\n")
 }
 
 // The lines of all n parties.

@@ -14,8 +14,8 @@ use Rattle.refusals.specs.Numbers.{badProgram}
 use Rattle.program.specs.Check.{Placed, Scanned, nodes, put, scan, calls, badCall, Checked, unlessBadCall, verdict, checked}
 use Rattle.program.specs.Answer.{CheckAnswer, accepted, refused, answerOf, checkAnswer}
 use Rattle.program.specs.Records.{reachOf, foundAt, partiesIn, scanned, AllGood}
-use Rattle.program.specs.declared.nodes.Node.{Node}
-use Rattle.program.specs.declared.nodes.Node.the-variants.{VAR, INT, OP, MUX, READ, WRITE, EMBED, SHARE, REVEAL, LET, CASE, PAR, CALL}
+use Rattle.nodes.specs.declared.Node.{Node}
+use Rattle.nodes.specs.declared.Node.the-variants.{VAR, INT, OP, MUX, READ, WRITE, EMBED, SHARE, REVEAL, LET, CASE, PAR, CALL}
 use Rattle.program.specs.declared.check.Found.the-variants as Found′
 use Rattle.program.specs.ScanLaws.{placed, from, scan-end}
 use Rattle.program.proofs.ScanSteps.{scan-bad, scan-good}

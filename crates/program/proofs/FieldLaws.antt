@@ -7,18 +7,18 @@ use native.Mathlib.Decide.{decLt}
 use native.Mathlib.Omega.{arith}
 use lib.Dec.{ltb}
 use borrow.Author.Tests.{lt-ltb, le-ltb}
-use Rattle.parties.specs.Limits.{maxParties, maxNames, partyOf, nameOf}
-use Rattle.parties.specs.declared.limits.Name.{Name}
-use Rattle.parties.specs.declared.limits.Party.{Party}
-use Rattle.parties.specs.declared.limits.MadeName.{MadeName}
-use Rattle.parties.specs.declared.limits.MadeName.the-variants as Name′
-use Rattle.parties.specs.declared.limits.MadeParty.{MadeParty}
-use Rattle.parties.specs.declared.limits.MadeParty.the-variants as Party′
-use Rattle.program.specs.Nodes.{nodeOf}
+use Rattle.limits.specs.Limits.{maxParties, maxNames, partyOf, nameOf}
+use Rattle.limits.specs.declared.Name.{Name}
+use Rattle.limits.specs.declared.Party.{Party}
+use Rattle.limits.specs.declared.MadeName.{MadeName}
+use Rattle.limits.specs.declared.MadeName.the-variants as Name′
+use Rattle.limits.specs.declared.MadeParty.{MadeParty}
+use Rattle.limits.specs.declared.MadeParty.the-variants as Party′
+use Rattle.nodes.specs.Nodes.{nodeOf}
 use Rattle.program.specs.Kinds.{ruleOf}
 use Rattle.program.specs.Check.{fits}
 use Rattle.program.specs.Records.{ruleFits}
-use Rattle.program.specs.RangeLaws.{every}
+use Rattle.nodes.specs.RangeLaws.{every}
 
 module _ {A : Type 0} (t : Bool) (a b m : A) (e : m ≡ cond t a b) where
   pub test-holds : (m ≡ b → ⊥) → true ≡ t

@@ -6,7 +6,7 @@ use borrow.Author.Tests.{le-leb, lt-leb}
 use Rattle.program.specs.Kinds.{bodyOf}
 use Rattle.program.specs.declared.kinds.Body.{Body}
 use Rattle.program.specs.declared.kinds.Body.the-variants.{Unknown}
-use Rattle.program.specs.RangeLaws.{Each, among}
+use Rattle.nodes.specs.RangeLaws.{Each, among}
 
 pub key : (n : ℕ) {k : ℕ} → k ≡ n → bodyOf n ≡ bodyOf k
 key n e = ap bodyOf (sym e)

@@ -8,8 +8,8 @@ use native.Mathlib.Omega.{arith}
 use lib.Dec.{eqb}
 use lib.ListN.{length, getD, drop, length-drop}
 use borrow.Author.Tests.{lt-ltb, le-ltb, le-leb, lt-leb, eq-eqb, ne-eqb}
-use Rattle.numbers.specs.Words.{numberAt}
-use Rattle.program.specs.Nodes.{isNodeKind, bodyLength, nodeOf, nodeIn}
+use Rattle.words.specs.Words.{numberAt}
+use Rattle.nodes.specs.Nodes.{isNodeKind, bodyLength, nodeOf, nodeIn}
 use Rattle.program.specs.Kinds.{ruleOf, bodyOf}
 use Rattle.program.specs.Check.{fits, isGood}
 use Rattle.program.specs.Records.{ruleFits, reachOf, foundAt, partiesIn}
@@ -17,9 +17,9 @@ use Rattle.program.specs.declared.kinds.Rule.{Rule}
 use Rattle.program.specs.declared.kinds.Body.{Body}
 use Rattle.program.specs.declared.kinds.Body.the-variants as Body′
 use Rattle.program.specs.declared.check.Found.the-variants as Found′
-use Rattle.program.specs.RangeLaws.{every}
+use Rattle.nodes.specs.RangeLaws.{every}
 use Rattle.program.proofs.FieldLaws.{rule-fits}
-use Rattle.program.proofs.ReadLaws.{number-drop}
+use Rattle.nodes.proofs.ReadLaws.{number-drop}
 
 -- ---- the kind
 

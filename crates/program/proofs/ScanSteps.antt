@@ -5,7 +5,7 @@ use mathlib.Core.List.{List}
 use Prim.Native.Nat.{ℕ, _+_, _-_, _≤_, _<_}
 use native.Mathlib.Omega.{arith}
 use lib.ListN.{length, getD, drop, length-drop}
-use Rattle.program.specs.Nodes.{bodyLength, nodeIn}
+use Rattle.nodes.specs.Nodes.{bodyLength, nodeIn}
 use Rattle.program.specs.Check.{isGood, Scanned, put}
 use Rattle.program.specs.Records.{reachOf, foundAt}
 use Rattle.program.specs.ScanLaws.{good-record, body-short, placed, from, scan-here}

@@ -5,14 +5,14 @@ use mathlib.Core.List.{List, [], _∷_, map}
 use mathlib.Core.Option.{Option, none, some}
 use lib.Dec.{eqb, ltb, leb}
 use lib.ListN.{length, getD}
-use Rattle.parties.specs.Limits.{maxParties, maxNames}
+use Rattle.limits.specs.Limits.{maxParties, maxNames}
 use Rattle.parties.specs.Sets.{isEmpty, within}
-use Rattle.parties.specs.declared.limits.Name.{Name}
-use Rattle.parties.specs.declared.limits.Party.{Party}
+use Rattle.limits.specs.declared.Name.{Name}
+use Rattle.limits.specs.declared.Party.{Party}
 use Rattle.parties.specs.declared.sets.PartySet.{PartySet}
-use Rattle.program.specs.Nodes.{isNodeKind, bodyLength, nodeOf}
-use Rattle.program.specs.declared.nodes.Node.{Node}
-use Rattle.program.specs.declared.nodes.Node.the-variants.{VAR, INT, OP, MUX, READ, WRITE, EMBED, SHARE, REVEAL, LET, CASE, PAR, CALL}
+use Rattle.nodes.specs.Nodes.{isNodeKind, bodyLength, nodeOf}
+use Rattle.nodes.specs.declared.Node.{Node}
+use Rattle.nodes.specs.declared.Node.the-variants.{VAR, INT, OP, MUX, READ, WRITE, EMBED, SHARE, REVEAL, LET, CASE, PAR, CALL}
 
 -- ---- fields
 

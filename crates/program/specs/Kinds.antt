@@ -3,7 +3,7 @@ use Prim.Native.Nat.{ℕ}
 use mathlib.Core.Bool.{cond}
 use mathlib.Core.List.{List, [], _∷_}
 use lib.ListN.{getD}
-use Rattle.program.specs.Nodes.{isNodeKind, bodyLength}
+use Rattle.nodes.specs.Nodes.{isNodeKind, bodyLength}
 use Rattle.program.specs.declared.kinds.Rule.{Rule}
 use Rattle.program.specs.declared.kinds.Rule.the-variants.{Free, OneName, Operation, ThreeNames, Share, Reveal, Parts, Par, Call}
 use Rattle.program.specs.declared.kinds.Body.{Body}

@@ -1,9 +1,5 @@
-pub mod Nodes
 pub mod Kinds
 pub mod Check
 pub mod Answer
 pub mod Records
-pub mod Places
-pub mod RangeLaws
 pub mod ScanLaws
-pub mod GoodLaws

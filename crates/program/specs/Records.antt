@@ -6,16 +6,16 @@ use mathlib.Core.List.{List}
 use mathlib.Core.Option.{none}
 use lib.Dec.{eqb, ltb, leb}
 use lib.ListN.{length, getD, drop}
-use Rattle.numbers.specs.Words.{numberAt}
-use Rattle.parties.specs.Limits.{maxParties}
+use Rattle.words.specs.Words.{numberAt}
+use Rattle.limits.specs.Limits.{maxParties}
 use Rattle.parties.specs.Sets.{within}
 use Rattle.parties.specs.SetBytes.{setAt}
-use Rattle.program.specs.Nodes.{bodyLength, nameIn, nodeIn}
+use Rattle.nodes.specs.Nodes.{bodyLength, nameIn, nodeIn}
 use Rattle.program.specs.Check.{isOperation, isName, isFull, isGood, Placed, Scanned, scan, badCall, Checked, verdict}
 use Rattle.program.specs.declared.kinds.Rule.{Rule}
 use Rattle.program.specs.declared.kinds.Rule.the-variants.{Free, OneName, Operation, ThreeNames, Share, Reveal, Parts, Par, Call}
-use Rattle.program.specs.declared.nodes.Node.{Node}
-use Rattle.program.specs.declared.nodes.Node.the-variants.{VAR, INT, OP, MUX, READ, WRITE, EMBED, SHARE, REVEAL, LET, CASE, PAR, CALL}
+use Rattle.nodes.specs.declared.Node.{Node}
+use Rattle.nodes.specs.declared.Node.the-variants.{VAR, INT, OP, MUX, READ, WRITE, EMBED, SHARE, REVEAL, LET, CASE, PAR, CALL}
 use Rattle.program.specs.declared.check.Found.{Found}
 use Rattle.program.specs.declared.check.Found.the-variants as Found′
 

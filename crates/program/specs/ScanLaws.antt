@@ -11,9 +11,9 @@ use lib.Dec.{ltb, leb}
 use lib.ListN.{length, getD, drop, drop-of-length-le}
 use lib.Seq.{drop-cons, drop-drop}
 use borrow.Author.Tests.{ltb-true, leb-true}
-use Rattle.program.specs.Nodes.{isNodeKind, bodyLength, nodeOf, nodeIn}
+use Rattle.nodes.specs.Nodes.{isNodeKind, bodyLength, nodeOf, nodeIn}
 use Rattle.program.specs.Check.{fits, isGood, Placed, Scanned, put, scan}
-use Rattle.program.specs.RangeLaws.{every}
+use Rattle.nodes.specs.RangeLaws.{every}
 
 -- ---- one record
 

@@ -2,16 +2,16 @@
 ghost use mathlib.Core.Path.{_≡_};
 ghost use Prim.Native.Nat.{_<_, _≤_, max};
 ghost use lib.ListN.{length};
-ghost use Rattle.parties.specs.Limits.{maxParties};
-ghost use Rattle.program.specs.Nodes.{nodeIn};
+ghost use Rattle.limits.specs.Limits.{maxParties};
+ghost use Rattle.nodes.specs.Nodes.{nodeIn};
 ghost use Rattle.program.specs.Records.{reachOf, foundAt, partiesIn, AllGood, LostAt};
 ghost use Rattle.program.specs.Answer.{told, checkAnswer};
 use crate::fields::fields_fit;
 use crate::kinds::Body;
-use crate::nodes::Node;
-use crate::nodes::byte;
-use crate::nodes::half;
-use parties::limits::Party;
+use limits::Party;
+use nodes::Node;
+use nodes::byte;
+use nodes::half;
 
 pub enum Verdict {
     // the number of parties, and of nodes

@@ -3,20 +3,20 @@ ghost use mathlib.Core.Path.{_≡_};
 ghost use Prim.Native.Nat.{_<_, _≤_};
 ghost use lib.Dec.{ltb};
 ghost use lib.ListN.{getD, drop};
-ghost use Rattle.numbers.specs.Words.{numberAt};
-ghost use Rattle.parties.specs.Limits.{maxParties};
+ghost use Rattle.words.specs.Words.{numberAt};
+ghost use Rattle.limits.specs.Limits.{maxParties};
 ghost use Rattle.parties.specs.SetBytes.{setAt};
-ghost use Rattle.program.specs.Nodes.{nameIn};
+ghost use Rattle.nodes.specs.Nodes.{nameIn};
 ghost use Rattle.program.specs.Check.{isName, isFull};
 ghost use Rattle.program.specs.Records.{ruleFits};
 use crate::kinds::Rule;
-use crate::nodes::byte;
-use crate::nodes::half;
-use crate::nodes::set_at;
-use parties::limits::MadeName;
-use parties::limits::MadeParty;
-use parties::limits::Name;
-use parties::limits::Party;
+use limits::MadeName;
+use limits::MadeParty;
+use limits::Name;
+use limits::Party;
+use nodes::byte;
+use nodes::half;
+use nodes::set_at;
 
 fn name_fits(p: &[u8], i: usize) -> bool
     ensures { λ r. ⌜ r ≡ isName (nameIn (now (p .entry)) i) ⌝ }

@@ -4,8 +4,8 @@ use mathlib.Core.Path.{_≡_, _∙_}
 use mathlib.Core.List.{List}
 use lib.ListN.{drop}
 use Rattle.records.specs.declared.events.Event.{Event}
-use Rattle.records.specs.Walk.{StepAnswer, event, end, refused, stepAnswer, Walked, andThen, walkFrom}
-use Rattle.records.specs.WalkLaws.{walk-steps}
+use Rattle.walk.specs.Walk.{StepAnswer, event, end, refused, stepAnswer, Walked, andThen, walkFrom}
+use Rattle.walk.specs.WalkLaws.{walk-steps}
 
 -- the place after an answer that was given at a place: past an event; the end and a refused event are stayed at
 abbrev pub placeNext : StepAnswer → ℕ → ℕ

@@ -1,10 +1,10 @@
 // The reader of a record keeps the bytes and a position together: a struct that holds the lent slice. Each function over it takes it apart
 // and leaves the work to a function on the slice and the number. The borrow checker covers no function over such a struct, so each is proved by hand.
 ghost use mathlib.Core.Path.{_≡_};
-ghost use Rattle.records.specs.Walk.{told, stepAnswer};
+ghost use Rattle.walk.specs.Walk.{told, stepAnswer};
 ghost use Rattle.reader.specs.Next.{placeAfter};
-use records::walk::Cursor;
-use records::walk::Step;
+use walk::Cursor;
+use walk::Step;
 
 pub struct Reader<'a> {
     pub bytes: &'a [u8],

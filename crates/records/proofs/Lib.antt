@@ -1,4 +1,1 @@
 pub mod StoreLaws
-pub mod StepLaws
-pub mod OrderLaws
-pub mod WrittenLaws

@@ -8,7 +8,7 @@ use lib.Dec.{leb}
 use lib.ListN.{length}
 use lib.Seq.{sets}
 use borrow.Author.Tests.{leb-true, leb-false, le-leb, lt-leb}
-use Rattle.numbers.proofs.StretchLaws.{sets-append}
+use Rattle.stretches.proofs.StretchLaws.{sets-append}
 use Rattle.records.specs.Events.{eventBytes, heldBack, hasRoom}
 use Rattle.records.specs.Append.{Appends, Closes}
 use Rattle.records.specs.EventLaws.{sized, event-length}

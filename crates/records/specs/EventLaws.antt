@@ -4,8 +4,8 @@ use mathlib.Core.List.{List, [], _∷_, _++_, append-assoc}
 use Prim.Native.Nat.{ℕ, _+_, _≤_}
 use native.Mathlib.Omega.{arith}
 use lib.ListN.{length}
-use Rattle.numbers.specs.Words.{lowFirst}
-use Rattle.values.specs.Cells.{RangedValue}
+use Rattle.words.specs.Words.{lowFirst}
+use Rattle.cells.specs.Cells.{RangedValue}
 use Rattle.values.specs.declared.value.Value.{Value}
 use Rattle.values.specs.declared.value.Value.the-variants.{Nothing, Clear, Share}
 use Rattle.records.specs.Events.{eventBytes, written, finished, heldBack}

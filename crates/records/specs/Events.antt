@@ -5,7 +5,7 @@ use mathlib.Core.List.{List, [], _∷_, _++_}
 use lib.Dec.{leb}
 use lib.IntN.{ℤ, pos}
 use lib.ListN.{length}
-use Rattle.numbers.specs.Words.{lowFirst, integerBytes}
+use Rattle.words.specs.Words.{lowFirst, integerBytes}
 use Rattle.parties.specs.Sets.{none}
 use Rattle.parties.specs.SetBytes.{setBytes}
 use Rattle.values.specs.declared.value.Value.{Value}

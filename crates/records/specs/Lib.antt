@@ -3,7 +3,3 @@ pub mod Ranged
 pub mod EventLaws
 pub mod Append
 pub mod AppendLaws
-pub mod Walk
-pub mod WalkLaws
-pub mod Order
-pub mod BeginsLaws

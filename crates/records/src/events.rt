@@ -4,11 +4,11 @@ ghost use mathlib.Core.List.{_∷_};
 ghost use Prim.Native.Nat.{_+_, _≤_};
 ghost use lib.ListN.{length};
 ghost use lib.Seq.{sets};
-ghost use Rattle.numbers.specs.Words.{integerBytes};
+ghost use Rattle.words.specs.Words.{integerBytes};
 ghost use Rattle.parties.specs.SetBytes.{setBytes};
 ghost use Rattle.records.specs.Events.{eventBytes, finished, hasRoom};
 ghost use Rattle.records.specs.Append.{Appends, Closes};
-use parties::limits::Party;
+use limits::Party;
 use parties::sets::PartySet;
 use values::value::Value;
 
@@ -121,7 +121,7 @@ fn store_byte_and_integer(s: &mut [u8], at: usize, b: u8, i: i32)
     ensures { λ _. ⌜ now (s .exit) ≡ sets (now (s .entry)) at (b ∷ integerBytes i) ⌝ }
 {
     s[at] = b;
-    numbers::words::store_integer(s, at + 1, i);
+    words::store_integer(s, at + 1, i);
 }
 
 fn store_byte_and_set(s: &mut [u8], at: usize, b: u8, q: PartySet)
@@ -145,7 +145,7 @@ fn store_opened(s: &mut [u8], at: usize, q: PartySet, i: i32)
     ensures { λ _. ⌜ now (s .exit) ≡ sets (now (s .entry)) at (eventBytes (Event.Opened q i)) ⌝ }
 {
     store_byte_and_set(s, at, 4, q);
-    numbers::words::store_integer(s, at + 3, i);
+    words::store_integer(s, at + 3, i);
 }
 
 fn store_finished(s: &mut [u8], at: usize, tag: u8, i: i32, l: PartySet, h: PartySet)
@@ -164,5 +164,5 @@ fn store_stopped(s: &mut [u8], at: usize, refusal: u8, node: u16)
 {
     s[at] = 7;
     s[at + 1] = refusal;
-    numbers::words::store2(s, at + 2, node);
+    words::store2(s, at + 2, node);
 }

@@ -9,7 +9,7 @@ use lib.ListN.{length, getD}
 use borrow.Author.Tests.{leb-true}
 use Rattle.program.specs.Check.{Program, Checked, good, checked}
 use Rattle.program.specs.Answer.{answerOf, checkAnswer}
-use Rattle.program.specs.GoodLaws.{good-program}
+use Rattle.places.specs.GoodLaws.{good-program}
 use Rattle.program.specs.ScanLaws.{both}
 use Rattle.records.specs.Events.{heldBack}
 use Rattle.rules.specs.Lent.{Lent, areaSize, roomOf, inputsOf, enoughLent}

@@ -134,7 +134,7 @@ fn show_case(
     cases::rows::load_counts(text, counts_at, counts);
     let inputs_at = layout.inputs;
     cases::rows::load_inputs(text, inputs_at, inputs);
-    let budget = numbers::words::load4(text, layout.budget);
+    let budget = words::load4(text, layout.budget);
     let end = layout.end;
     let turns = layout.turns;
     show_both(
@@ -168,7 +168,7 @@ fn show_text(
     ensures { λ r. ⌜ PutsAtMost (2 * mostOfOne) (shown lending (now (text .entry))) at r (now (out .entry)) (now (out .exit)) ⌝ }
 {
     match cases::layout::parse(text) {
-        Parsed::Bad => text::words::put(out, at, b"bad input\n"),
+        Parsed::Bad => text::plain::put(out, at, b"bad input\n"),
         Parsed::Good(layout) => {
             let k = layout.k;
             let total = layout.total;

@@ -1,6 +1,5 @@
 pub mod Names
 pub mod Rules
-pub mod Handed
 pub mod Moves
 pub mod Books
 pub mod Single

@@ -5,15 +5,15 @@ use mathlib.Core.List.{List, [], _∷_, _++_}
 use lib.IntN.{pos, negsuc}
 use lib.ListN.{take, replicate}
 use Rattle.numbers.specs.Integers.{reduced, operate}
-use Rattle.numbers.specs.Words.{lowFirst, numberAt}
+use Rattle.words.specs.Words.{lowFirst, numberAt}
 use Rattle.numbers.specs.declared.integers.Operation.the-variants.{Add, Sub, Mul, Lt}
 use Rattle.parties.specs.Sets.{member, meet, join, isEmpty, sameSet, only, all, within, countFrom, count, lowestFrom, lowest, makeUp}
 use Rattle.parties.specs.declared.sets.PartySet.{PartySet}
 use Rattle.values.specs.Values.{place, moved, restrict, slice, held, hadBy}
 use Rattle.values.specs.declared.value.Value.the-variants.{Nothing, Clear, Share}
-use Rattle.program.specs.Nodes.{bodyLength, operationOf, nodeOf}
+use Rattle.nodes.specs.Nodes.{bodyLength, operationOf, nodeOf}
 use Rattle.program.specs.Check.{fits, isGood, scan, badCall, verdict, checked, nodeAt}
-use Rattle.program.specs.declared.nodes.Node.the-variants.{SHARE}
+use Rattle.nodes.specs.declared.Node.the-variants.{SHARE}
 use Rattle.records.specs.Events.{eventBytes, written, finished, hasRoom}
 use Rattle.rules.specs.Names.{noneBound, bind, look, lookAll, namesOf}
 use Rattle.rules.specs.Rules.{mux, alone, giverShares, otherShares, atShare, holderOpens, atReveal, judge, rule}

@@ -4,9 +4,9 @@ use mathlib.Core.Bool.{cond}
 use mathlib.Core.List.{List, [], _∷_}
 use lib.Dec.{ltb}
 use lib.ListN.{length}
-use Rattle.parties.specs.Limits.{maxFrames}
+use Rattle.limits.specs.Limits.{maxFrames}
 use Rattle.parties.specs.Sets.{all}
-use Rattle.parties.specs.declared.limits.Name.{Name}
+use Rattle.limits.specs.declared.Name.{Name}
 use Rattle.parties.specs.declared.sets.PartySet.{PartySet}
 use Rattle.values.specs.declared.value.Value.{Value}
 use Rattle.program.specs.Check.{Program}

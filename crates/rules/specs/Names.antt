@@ -2,16 +2,16 @@
 use Prim.Native.Nat.{ℕ}
 use mathlib.Core.List.{List, [], _∷_}
 use lib.ListN.{getD, set, replicate}
-use Rattle.parties.specs.Limits.{maxNames}
-use Rattle.parties.specs.declared.limits.Name.{Name}
+use Rattle.limits.specs.Limits.{maxNames}
+use Rattle.limits.specs.declared.Name.{Name}
 use Rattle.parties.specs.declared.sets.PartySet.{PartySet}
 use Rattle.values.specs.Values.{restrict}
 use Rattle.values.specs.declared.value.Value.{Value}
 use Rattle.values.specs.declared.value.Value.the-variants.{Nothing}
-use Rattle.values.specs.declared.cells.Bound.{Bound}
-use Rattle.values.specs.declared.cells.Bound.the-variants.{Unbound, To}
-use Rattle.program.specs.declared.nodes.Node.{Node}
-use Rattle.program.specs.declared.nodes.Node.the-variants.{VAR, INT, OP, MUX, READ, WRITE, EMBED, SHARE, REVEAL, LET, CASE, PAR, CALL}
+use Rattle.cells.specs.declared.Bound.{Bound}
+use Rattle.cells.specs.declared.Bound.the-variants.{Unbound, To}
+use Rattle.nodes.specs.declared.Node.{Node}
+use Rattle.nodes.specs.declared.Node.the-variants.{VAR, INT, OP, MUX, READ, WRITE, EMBED, SHARE, REVEAL, LET, CASE, PAR, CALL}
 
 -- what the sixteen names are bound to, name 0 first
 abbrev pub Names : Type 0

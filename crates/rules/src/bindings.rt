@@ -1,5 +1,5 @@
 // What a rule is handed: the bindings of its node, as they are seen in the mode.
-use parties::limits::Name;
+use limits::Name;
 use values::value::Value;
 
 pub struct Binding {

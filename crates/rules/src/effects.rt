@@ -1,6 +1,6 @@
 // What a rule asks to be done. A rule only looks; whoever asked it then moves, writes or meets.
-use parties::limits::Name;
-use parties::limits::Party;
+use limits::Name;
+use limits::Party;
 use parties::sets::PartySet;
 use values::value::Value;
 

@@ -4,22 +4,22 @@ use mathlib.Core.List.{List}
 use Prim.Native.Nat.{ℕ, _-_, _*_, _≤_}
 use lib.IntN.{ℤ}
 use lib.ListN.{length, replicate}
-use Rattle.parties.specs.Limits.{maxParties}
+use Rattle.limits.specs.Limits.{maxParties}
 use Rattle.parties.specs.Sets.{all}
 use Rattle.parties.specs.declared.sets.PartySet.{PartySet}
 use Rattle.rules.specs.Books.{opening}
 use Rattle.rules.specs.Moves.{Control}
 use Rattle.rules.specs.Single.{going, run, after}
 use Rattle.rules.specs.Lent.{inputsOf}
-use Rattle.area.specs.Table.{Prepared}
+use Rattle.table.specs.Table.{Prepared}
 use Rattle.area.proofs.LevelLaws.{fresh}
 use Rattle.ledger.specs.Ledger.{noneUsed}
 use Rattle.ledger.proofs.OpeningLaws.{starts-at, zeros, opening-lengths, opening-records, opening-fits}
-use Rattle.ledger.specs.Inputs.{Divided, InputsHold}
-use Rattle.single.specs.Steps.{Given, Stands}
+use Rattle.inputs.specs.Inputs.{Divided, InputsHold}
+use Rattle.single_step.specs.Steps.{Given, Stands}
 use Rattle.single.specs.Runs.{Finishes, RunsOn, Drives}
 use Rattle.single.specs.declared.runs.Answer.{Answer}
-use Rattle.ledger.proofs.InputLaws.{inputs-start}
+use Rattle.inputs.proofs.InputLaws.{inputs-start}
 
 pub drives-by : (bs : List ℕ) (n nodes room : ℕ) (counts : List ℕ) (is : List ℤ) (budget : ℕ) (a : Answer) (xs ls xs′ ls′ at end ls₁ w₁ : List ℕ) (mode : PartySet)
     → n * room ≤ length xs → n ≤ length ls → Divided counts (replicate 16 0) (replicate 16 0) at end → ls₁ ≡ noneUsed n ls → Prepared bs nodes w₁ → mode ≡ all n

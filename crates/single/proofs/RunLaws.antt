@@ -5,20 +5,20 @@ use Prim.Native.Nat.{ℕ, zero, suc, _+_, _-_, _≤_, _<_}
 use native.Mathlib.Omega.{arith}
 use lib.IntN.{ℤ}
 use lib.ListN.{length, take}
-use Rattle.parties.specs.Limits.{maxFrames}
+use Rattle.limits.specs.Limits.{maxFrames}
 use Rattle.values.specs.declared.value.Value.{Value}
 use Rattle.program.specs.Check.{Program, good, checked}
 use Rattle.rules.specs.Books.{Books}
 use Rattle.rules.specs.Moves.{Control}
 use Rattle.rules.specs.Single.{Setting, Single, going, ended, stopped, step, run}
 use Rattle.area.specs.Levels.{tableSize, controlOf}
-use Rattle.area.specs.Table.{PlacesIn}
+use Rattle.table.specs.Table.{PlacesIn}
 use Rattle.area.specs.declared.stand.Stand.{Stand}
-use Rattle.area.proofs.TableLaws.{places-kept}
-use Rattle.single.specs.Steps.{Lists, Given, Stands, Comes, DeepAfter, StepsOn}
+use Rattle.table.proofs.TableLaws.{places-kept}
+use Rattle.single_step.specs.Steps.{Lists, Given, Stands, Comes, DeepAfter, StepsOn}
 use Rattle.single.specs.Runs.{RunsOn}
-use Rattle.single.specs.declared.steps.Stepped.{Stepped}
-use Rattle.single.specs.declared.steps.Stepped.the-variants.{On, Ended, Stopped}
+use Rattle.single_step.specs.declared.Stepped.{Stepped}
+use Rattle.single_step.specs.declared.Stepped.the-variants.{On, Ended, Stopped}
 use Rattle.single.specs.declared.runs.Answer.the-variants as Answer′
 
 run-step : (S : Setting) (f k : ℕ) (c : Control) (b : Books) → 0 < f → run S f (going k c b) ≡ run S (f - 1) (step S (going k c b))

@@ -13,10 +13,10 @@ use Rattle.rules.specs.Single.{Single, going, ended, stopped, run, after}
 use Rattle.rules.specs.Lent.{Lent, Left, inputsOf}
 use Rattle.rules.specs.Calls.{SingleAnswer, refused, stoppedAt, endedAfter, budgetUsed}
 use Rattle.area.specs.Levels.{controlOf}
-use Rattle.area.specs.Table.{PlacesIn}
+use Rattle.table.specs.Table.{PlacesIn}
 use Rattle.area.specs.declared.stand.Stand.{Stand}
 use Rattle.ledger.specs.Ledger.{Holds}
-use Rattle.single.specs.Steps.{Lists, Given, Stands}
+use Rattle.single_step.specs.Steps.{Lists, Given, Stands}
 use Rattle.single.specs.declared.runs.Answer.{Answer}
 use Rattle.single.specs.declared.runs.Answer.the-variants as Answer′
 

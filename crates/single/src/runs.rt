@@ -2,19 +2,19 @@
 ghost use mathlib.Core.Path.{_≡_};
 ghost use Prim.Native.Nat.{_*_, _≤_};
 ghost use lib.ListN.{length};
-ghost use Rattle.parties.specs.Limits.{maxParties, maxFrames};
+ghost use Rattle.limits.specs.Limits.{maxParties, maxFrames};
 ghost use Rattle.program.specs.Answer.{accepted, checkAnswer};
 ghost use Rattle.rules.specs.Lent.{areaSize, sum};
 ghost use Rattle.rules.specs.Calls.{singleCall};
 ghost use Rattle.single.specs.Runs.{RunsOn, Drives, Is};
-use crate::steps::Stepped;
 use area::stand::AREA;
 use area::stand::Stand;
-use ledger::inputs::counts_fit;
-use parties::limits::Depth;
+use inputs::counts_fit;
+use limits::Depth;
 use parties::sets::PartySet;
 use program::check::Verdict;
 use records::events::Event;
+use single_step::Stepped;
 
 pub enum Answer {
     // the refusal, and its place
@@ -48,7 +48,7 @@ fn run_on(
     let mut k: u32 = 0;
     while k < budget {
         let node = t.node;
-        match crate::steps::step(
+        match single_step::step(
             program,
             nodes,
             t,
@@ -94,10 +94,10 @@ fn drive(
 {
     let mut at = [0usize; 16];
     let mut end = [0usize; 16];
-    ledger::inputs::divide(counts, inputs, &mut at, &mut end);
+    inputs::divide(counts, inputs, &mut at, &mut end);
     ledger::entries::clear_lengths(n, lengths);
     let many = nodes as usize;
-    area::table::prepare(program, many, work);
+    table::prepare(program, many, work);
     let start = Stand {
         node: nodes - 1,
         mode: PartySet::all(n),
@@ -158,7 +158,7 @@ fn run_good(
             lengths,
             work,
         );
-        numbers::stretches::zero(work);
+        stretches::zero(work);
         return answer;
     }
     Answer::Refused(refusals::BAD_COUNTS, 0)

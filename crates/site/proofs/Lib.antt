@@ -1,3 +1,1 @@
-pub mod ActLaws
 pub mod OwnLaws
-pub mod AttendLaws

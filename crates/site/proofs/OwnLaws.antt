@@ -8,9 +8,9 @@ use denote.Enum.{Declared.tagOf}
 use types.Run.{OneOf, miss}
 use lib.IntN.{pos}
 use lib.ListN.{length}
-use Rattle.parties.specs.declared.limits.Party.{Party}
+use Rattle.limits.specs.declared.Party.{Party}
 use Rattle.program.specs.Check.{Program, good, checked, nodeAt}
-use Rattle.program.specs.declared.nodes.Node.{Node}
+use Rattle.nodes.specs.declared.Node.{Node}
 use Rattle.records.specs.Events.{hasRoom}
 use Rattle.records.specs.declared.events.Event.{Event}
 use Rattle.refusals.specs.Numbers.{noRoom}
@@ -26,9 +26,9 @@ use Rattle.rules.specs.declared.effects.Effect.{Effect}
 use Rattle.rules.specs.declared.effects.Effect.the-variants.{Refuse, Goes, Reads, Writes, Meets}
 use Rattle.rules.proofs.effects.Effect.{the-type}
 use Rattle.area.specs.Levels.{namesAt, controlOf}
-use Rattle.area.specs.Table.{PlacesIn, nodeBy}
+use Rattle.table.specs.Table.{PlacesIn, nodeBy}
 use Rattle.area.specs.declared.stand.Stand.{Stand}
-use Rattle.area.proofs.TableLaws.{node-by}
+use Rattle.table.proofs.TableLaws.{node-by}
 use Rattle.site.specs.Own.{acted, Alone, Owns}
 use Rattle.site.specs.declared.own.Own.the-variants.{Acts, Attends}
 

@@ -5,7 +5,7 @@ use mathlib.Core.List.{List}
 use mathlib.Core.Option.{none, some}
 use lib.IntN.{pos}
 use lib.ListN.{length}
-use Rattle.parties.specs.declared.limits.Party.{Party}
+use Rattle.limits.specs.declared.Party.{Party}
 use Rattle.values.specs.declared.value.Value.the-variants.{Clear}
 use Rattle.program.specs.Check.{Program, good, checked}
 use Rattle.records.specs.declared.events.Event.the-variants.{Wrote}
@@ -18,7 +18,7 @@ use Rattle.rules.specs.declared.effects.Move.the-variants.{Hand}
 use Rattle.rules.specs.declared.effects.Effect.{Effect}
 use Rattle.rules.specs.declared.effects.Effect.the-variants.{Refuse, Goes, Reads, Writes, Meets}
 use Rattle.area.specs.Levels.{controlOf}
-use Rattle.area.specs.Table.{PlacesIn}
+use Rattle.table.specs.Table.{PlacesIn}
 use Rattle.area.specs.declared.stand.Stand.{Stand}
 use Rattle.site.specs.declared.own.Own.{Own}
 use Rattle.site.specs.declared.own.Own.the-variants.{Acts, Attends}

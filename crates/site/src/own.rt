@@ -1,11 +1,11 @@
 // What a site's own rule asks of it, with its own checks.
 ghost use Prim.Native.Nat.{_≤_};
 ghost use lib.ListN.{length};
-ghost use Rattle.parties.specs.Limits.{maxFrames};
+ghost use Rattle.limits.specs.Limits.{maxFrames};
 ghost use Rattle.rules.specs.Lent.{areaSize};
 ghost use Rattle.site.specs.Own.{Owns};
 use area::stand::Stand;
-use parties::limits::Party;
+use limits::Party;
 use rules::effects::Effect;
 use rules::effects::Meeting;
 use rules::effects::Offer;
@@ -30,12 +30,12 @@ pub fn asked(
     requires { ⌜ (t .depth .frames ≤ maxFrames) × (areaSize ≤ length (now area)) ⌝ }
     ensures { λ r. ⌜ Owns (now (program .entry)) nodes p t room used r (now (area .entry)) ⌝ }
 {
-    let node = area::table::node(program, nodes, area, t.node);
-    let effect = area::lookup::effect(View::Site(p), node, t, area);
+    let node = table::node(program, nodes, area, t.node);
+    let effect = lookup::effect(View::Site(p), node, t, area);
     let Effect::Meets(mt, offer) = effect else {
         return Own::Acts(effect);
     };
-    if ledger::entries::event_for(p, rules::meetings::event_of(mt, 0)).has_room(room, used) {
+    if ledger::entries::event_for(p, judge::meetings::event_of(mt, 0)).has_room(room, used) {
         return Own::Attends(mt, offer);
     }
     Own::Acts(Effect::Refuse(refusals::NO_ROOM))

@@ -26,8 +26,8 @@ use Rattle.rules.specs.declared.effects.Effect.{Effect}
 use Rattle.rules.specs.declared.effects.Effect.the-variants.{Refuse, Goes, Reads, Writes, Meets}
 use Rattle.invariants.proofs.BookLaws.{none-taken}
 use Rattle.invariants.proofs.MeetingLaws.{meeting-each}
-use Rattle.ledger.specs.Inputs.{headOf}
-use Rattle.ledger.specs.declared.inputs.Taken.{Taken}
+use Rattle.inputs.specs.Inputs.{headOf}
+use Rattle.inputs.specs.declared.Taken.{Taken}
 use Rattle.site.specs.Own.{acted}
 use Rattle.meets.specs.Places.{InputsOf, InputsStand}
 use Rattle.sites.specs.Turns.{takenBy}

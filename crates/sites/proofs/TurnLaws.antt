@@ -27,30 +27,30 @@ use Rattle.rules.specs.declared.effects.Effect.the-variants.{Refuse, Goes, Read
 use Rattle.rules.specs.declared.effects.Effect.the-variants as Effect′
 use Rattle.rules.proofs.effects.Effect.{the-type}
 use Rattle.invariants.specs.Room.{Fits}
-use Rattle.ledger.specs.Inputs.{headOf}
-use Rattle.ledger.specs.declared.inputs.Taken.{Taken}
-use Rattle.ledger.specs.declared.inputs.Taken.the-variants.{UsedUp}
+use Rattle.inputs.specs.Inputs.{headOf}
+use Rattle.inputs.specs.declared.Taken.{Taken}
+use Rattle.inputs.specs.declared.Taken.the-variants.{UsedUp}
 use Rattle.area.specs.Levels.{controlOf}
-use Rattle.area.specs.Seats.{seatAt, seated, siteOf}
+use Rattle.seats.specs.Seats.{seatAt, seated, siteOf}
 use Rattle.area.specs.declared.stand.Stand.{Stand}
-use Rattle.area.specs.declared.seats.Seat.{Seat}
-use Rattle.area.specs.declared.seats.Seat.the-variants.{Running, Finished, Stopped}
-use Rattle.site.specs.Acts as Site
-use Rattle.site.specs.Acts.{Took}
+use Rattle.seats.specs.declared.Seat.{Seat}
+use Rattle.seats.specs.declared.Seat.the-variants.{Running, Finished, Stopped}
+use Rattle.acts.specs.Acts as Site
+use Rattle.acts.specs.Acts.{Took}
 use Rattle.site.specs.Own as Owned
 use Rattle.site.specs.Own.{acted, Alone, Owns}
 use Rattle.site.specs.declared.own.Own as OwnOf
 use Rattle.site.specs.declared.own.Own.the-variants.{Acts, Attends}
 use Rattle.meets.specs.Places.{row, areaOf, settingOf, Given, Stands, InputsOf}
 use Rattle.meets.specs.Meets.{gathered, Sitting, Gathers, Agreed}
-use Rattle.sites.specs.Concludes.{ConcludesAll}
+use Rattle.concludes.specs.Concludes.{ConcludesAll}
 use Rattle.sites.specs.Turns.{Meets, takenBy, ActsAlone, Turns}
 use Rattle.meets.specs.declared.present.Gathered.{Gathered}
 use Rattle.meets.specs.declared.present.Gathered.the-variants.{Missing, All}
-use Rattle.sites.specs.declared.concludes.Outcome.{Outcome}
-use Rattle.sites.specs.declared.concludes.Outcome.the-variants.{Joins, Parts}
-use Rattle.sites.proofs.RowLaws.{back, row-length}
-use Rattle.sites.proofs.StandLaws.{NotRunning, stands-length, stands-sits, stands-long, stands-changed}
+use Rattle.concludes.specs.declared.Outcome.{Outcome}
+use Rattle.concludes.specs.declared.Outcome.the-variants.{Joins, Parts}
+use Rattle.concludes.proofs.RowLaws.{back, row-length}
+use Rattle.concludes.proofs.StandLaws.{NotRunning, stands-length, stands-sits, stands-long, stands-changed}
 use Rattle.sites.proofs.InputLaws.{acted-stand, meeting-inputs}
 
 -- ---- inputs taken

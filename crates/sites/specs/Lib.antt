@@ -1,2 +1,1 @@
-pub mod Concludes
 pub mod Turns

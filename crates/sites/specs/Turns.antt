@@ -11,8 +11,8 @@ use Rattle.rules.specs.declared.effects.Meeting.{Meeting}
 use Rattle.rules.specs.declared.effects.Effect.{Effect}
 use Rattle.rules.specs.declared.effects.Effect.the-variants.{Refuse, Goes, Reads, Writes}
 use Rattle.rules.specs.declared.effects.Effect.the-variants as Effect′
-use Rattle.ledger.specs.declared.inputs.Taken.{Taken}
-use Rattle.ledger.specs.declared.inputs.Taken.the-variants.{Input, UsedUp}
+use Rattle.inputs.specs.declared.Taken.{Taken}
+use Rattle.inputs.specs.declared.Taken.the-variants.{Input, UsedUp}
 use Rattle.area.specs.Levels.{controlOf}
 use Rattle.area.specs.declared.stand.Stand.{Stand}
 use Rattle.site.specs.Own.{acted, Alone}

@@ -3,15 +3,15 @@ ghost use mathlib.Core.Path.{_≡_};
 ghost use mathlib.Core.Bool.{cond};
 ghost use Prim.Native.Nat.{_*_, _+_, _≤_, _<_};
 ghost use lib.ListN.{length};
-ghost use Rattle.parties.specs.Limits.{maxParties, maxFrames};
+ghost use Rattle.limits.specs.Limits.{maxParties, maxFrames};
 ghost use Rattle.rules.specs.Lent.{areaSize};
 ghost use Rattle.sites.specs.Turns.{once, takenBy, Meets, ActsAlone};
-use crate::concludes::Outcome;
 use area::stand::AREA;
 use area::stand::Stand;
-use ledger::inputs::Taken;
+use concludes::Outcome;
+use inputs::Taken;
+use limits::Party;
 use meets::present::Gathered;
-use parties::limits::Party;
 use parties::sets::PartySet;
 use rules::effects::Effect;
 use rules::effects::Meeting;
@@ -65,7 +65,7 @@ pub fn meet(
         work,
     );
     let outcome = outcome_of(agreed, number);
-    crate::concludes::conclude(program, nodes, outcome, m, n, room, bytes, lengths, work);
+    concludes::conclude(program, nodes, outcome, m, n, room, bytes, lengths, work);
     true
 }
 
@@ -99,13 +99,13 @@ pub fn act_alone(
     ensures { λ _. ⌜ ActsAlone effect t p room (now (inputs .entry)) (now (end .entry)) (now (at .entry)) (now (bytes .entry)) (now (lengths .entry)) (now (work .entry)) (now (at .exit)) (now (bytes .exit)) (now (lengths .exit)) (now (work .exit)) ⌝ }
 {
     let i = p as usize;
-    let input = ledger::inputs::next_input(i, inputs, at, end);
+    let input = inputs::next_input(i, inputs, at, end);
     let start = i * room;
     let stop = start + room;
     let from = i * AREA;
     let to = from + AREA;
     let used = lengths[i];
-    lengths[i] = site::acts::act(
+    lengths[i] = acts::act(
         effect,
         t,
         Party { index: p },

@@ -1,12 +1,12 @@
 // A turn: the site steps, or stops by its own check, or nothing changes.
 ghost use Prim.Native.Nat.{_*_, _≤_, _<_};
 ghost use lib.ListN.{length};
-ghost use Rattle.parties.specs.Limits.{maxParties};
+ghost use Rattle.limits.specs.Limits.{maxParties};
 ghost use Rattle.rules.specs.Lent.{areaSize};
 ghost use Rattle.sites.specs.Turns.{Turns};
-use area::seats::Seat;
 use area::stand::AREA;
-use parties::limits::Party;
+use limits::Party;
+use seats::Seat;
 use site::own::Own;
 
 // A turn of site p: whether it counts.
@@ -30,7 +30,7 @@ pub fn turn(
     let from = i * AREA;
     let to = from + AREA;
     let used = lengths[i];
-    let Seat::Running(t) = area::seats::load_seat(&work[from..to]) else {
+    let Seat::Running(t) = seats::load_seat(&work[from..to]) else {
         return false;
     };
     let e = t.node;

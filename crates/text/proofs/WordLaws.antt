@@ -6,7 +6,7 @@ use native.Mathlib.Numerals.{add-one}
 use native.Mathlib.Omega.{arith}
 use lib.ListN.{length, getD, set, take}
 use lib.Seq.{sets, length-take-le, take-suc, take-all}
-use Rattle.numbers.proofs.StretchLaws.{sets-append}
+use Rattle.stretches.proofs.StretchLaws.{sets-append}
 use Rattle.text.specs.Text.{Puts}
 
 -- one byte more of the word

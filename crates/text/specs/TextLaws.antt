@@ -7,7 +7,7 @@ use native.Mathlib.Omega.{arith}
 use lib.Dec.{ltb}
 use lib.ListN.{length, length-append}
 use lib.Seq.{length-sets}
-use Rattle.numbers.proofs.StretchLaws.{sets-append}
+use Rattle.stretches.proofs.StretchLaws.{sets-append}
 use Rattle.text.specs.Text.{ascii, digit, decimalWithin, maxDigits, decimal, hexDigit, hex, spaced, Puts}
 
 -- ---- lengths

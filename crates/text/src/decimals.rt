@@ -17,5 +17,5 @@ pub fn put_decimal(out: &mut [u8], at: usize, n: u64) -> usize
         first -= 1;
     }
     digits[first] = b'0' + left as u8;
-    crate::words::put(out, at, &digits[first..])
+    crate::plain::put(out, at, &digits[first..])
 }

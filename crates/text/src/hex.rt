@@ -35,6 +35,6 @@ pub fn put_spaced(out: &mut [u8], at: usize, bytes: &[u8]) -> usize
     if bytes.len() == 0 {
         return at;
     }
-    let end = crate::words::put(out, at, b" ");
+    let end = crate::plain::put(out, at, b" ");
     put_hex(out, end, bytes)
 }

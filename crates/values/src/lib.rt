@@ -1,3 +1,2 @@
 // Values, what a mode and a party see of them, and how a bound value lies in lent bytes.
 pub mod value; // value.rt: a value; restricted to a mode, sliced for a party, held at exactly a mode
-pub mod cells; // cells.rt: what a name is bound to, in nine lent bytes

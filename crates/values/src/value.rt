@@ -1,7 +1,7 @@
 // A value, and what a mode, a party and a rule see of it.
 ghost use mathlib.Core.Path.{_≡_};
 ghost use Rattle.values.specs.Values.{place, moved, restrict, slice, held, hadBy};
-use parties::limits::Party;
+use limits::Party;
 use parties::sets::PartySet;
 
 pub enum Value {

@@ -86,7 +86,7 @@ fn next_case(
     if io::read_full(0, &mut head) < 4 {
         return false;
     }
-    let bytes = numbers::words::load4(&head, 0) as usize;
+    let bytes = words::load4(&head, 0) as usize;
     let size = at_most(bytes, space);
     read_case(i, &mut space[..size], records, lengths, work, out);
     skip(bytes - size, space);

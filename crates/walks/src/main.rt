@@ -28,7 +28,7 @@ fn read_record(bytes: &mut [u8]) -> Got
     if io::read_full(STDIN_FILENO, &mut head) < 2 {
         return Got::Cut;
     }
-    let n = numbers::words::load2(&head, 0) as usize;
+    let n = words::load2(&head, 0) as usize;
     if io::read_full(STDIN_FILENO, &mut bytes[..n]) < n {
         return Got::Cut;
     }

@@ -39,10 +39,10 @@ use denote.Triple.Table.{entered, cited}
 use denote.Triple.Walked.{says, Stays, stay-none, stay-none-slice, walkOf, goes-none, goes-none-slice, Walks, ends-at, walked, walk-meets}
 use denote.Exit.{yes}
 use denote.Triple.Clauses.{ensured, lasts}
-use Rattle.records.specs.Walk.{StepAnswer, told, stepAnswer}
-use Rattle.records.specs.declared.walk.Step.{Step}
-use Rattle.records.proofs.walk.Step as S
-use Rattle.records.proofs.walk.Step.Laws as S′
+use Rattle.walk.specs.Walk.{StepAnswer, told, stepAnswer}
+use Rattle.walk.specs.declared.Step.{Step}
+use Rattle.walk.proofs.Step as S
+use Rattle.walk.proofs.Step.Laws as S′
 use Rattle.reader.specs.declared.Reader.{Reader}
 use Rattle.reader.proofs.Reader as T
 use Rattle.reader.proofs.Reader.Laws as T′

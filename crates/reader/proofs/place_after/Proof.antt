@@ -4,7 +4,7 @@ use mathlib.Core.Path.{_≡_, sym, ap, _∙_}
 use mathlib.Core.List.{List}
 use Prim.Native.Nat.{ℕ}
 use borrow.Author.Needs.{needs}
-use Rattle.records.specs.Walk.{StepAnswer, told, stepAnswer}
+use Rattle.walk.specs.Walk.{StepAnswer, told, stepAnswer}
 use Rattle.reader.specs.Next.{placeNext, placeAfter}
 use Rattle.reader.proofs.place_after.Statement.{statement}
 use Rattle.reader.proofs.place_after.Tie as tie

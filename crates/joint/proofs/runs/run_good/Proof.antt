@@ -6,10 +6,10 @@ use lib.IntN.{ℤ}
 use borrow.Author.Tests.{not-true, not-false}
 use borrow.Author.Needs.{needs}
 use Rattle.rules.specs.Lent.{Lent}
-use Rattle.ledger.proofs.InputLaws.{counts-fit-is}
+use Rattle.inputs.proofs.InputLaws.{counts-fit-is}
 use Rattle.ledger.proofs.LentLaws.{fit-parts}
-use Rattle.joint.specs.Ends.{found}
-use Rattle.joint.specs.declared.ends.BadTurn.{BadTurn}
+use Rattle.ends.specs.Ends.{found}
+use Rattle.ends.specs.declared.BadTurn.{BadTurn}
 use Rattle.joint.proofs.CallLaws.{call-counts, call-turn}
 use Rattle.joint.proofs.runs.run_good.Statement.{statement}
 use Rattle.joint.proofs.runs.run_good.Tie as tie

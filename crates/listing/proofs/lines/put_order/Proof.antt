@@ -1,7 +1,7 @@
 -- `listing::lines::put_order` meets its contract. Assumes nothing.
 use native.Mathlib.Omega.{arith}
 use borrow.Author.Needs.{needs}
-use Rattle.records.specs.Order.{continued}
+use Rattle.order.specs.Order.{continued}
 use Rattle.text.specs.Text.{ascii}
 use Rattle.text.specs.TextLaws.{puts-length, puts-then, spaced-short}
 use Rattle.listing.specs.Lines.{orderLine}

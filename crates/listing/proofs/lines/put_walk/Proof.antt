@@ -4,7 +4,7 @@ use Prim.Native.Nat.{_-_}
 use native.Mathlib.Omega.{arith}
 use lib.ListN.{length}
 use borrow.Author.Needs.{needs}
-use Rattle.records.specs.Walk.{event, stepAnswer, told}
+use Rattle.walk.specs.Walk.{event, stepAnswer, told}
 use Rattle.text.specs.Text.{ascii}
 use Rattle.text.specs.TextLaws.{puts-length}
 use Rattle.listing.proofs.LineLaws.{marked-short}

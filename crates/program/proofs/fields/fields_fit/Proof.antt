@@ -3,7 +3,7 @@ use native.Mathlib.Nat.{add-zero}
 use lib.Seq.{getD-drop}
 use borrow.Author.Needs.{needs}
 use Rattle.program.specs.Records.{ruleFits}
-use Rattle.program.proofs.ReadLaws.{number-drop}
+use Rattle.nodes.proofs.ReadLaws.{number-drop}
 use Rattle.program.proofs.fields.fields_fit.Statement.{statement}
 use Rattle.program.proofs.fields.fields_fit.Tie as tie
 

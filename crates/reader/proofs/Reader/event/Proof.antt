@@ -43,13 +43,13 @@ use denote.Triple.Table.{entered, cited}
 use denote.Triple.Walked.{says, Stays, stay-none, walkOf, goes-none, Walks, ends-at, walked, walk-meets}
 use denote.Exit.{yes}
 use denote.Triple.Clauses.{ensured, lasts}
-use Rattle.records.specs.Walk.{StepAnswer, told, stepAnswer}
+use Rattle.walk.specs.Walk.{StepAnswer, told, stepAnswer}
 use Rattle.reader.specs.declared.Reader.{Reader}
-use Rattle.records.specs.declared.walk.Step.{Step}
+use Rattle.walk.specs.declared.Step.{Step}
 use Rattle.reader.proofs.Reader as T
 use Rattle.reader.proofs.Reader.Laws as T′
-use Rattle.records.proofs.walk.Step as S
-use Rattle.records.proofs.walk.Step.Laws as S′
+use Rattle.walk.proofs.Step as S
+use Rattle.walk.proofs.Step.Laws as S′
 use Rattle.reader.proofs.step_at as step
 use Rattle.reader.proofs.step_at.Symbol as step-def
 use Rattle.reader.proofs.step_at.Symbol.{name as #reader·step-at}

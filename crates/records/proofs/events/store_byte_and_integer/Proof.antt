@@ -4,7 +4,7 @@ use mathlib.Core.List.{[], _∷_}
 use mathlib.Core.Path.{refl}
 use lib.ListN.{length-set}
 use borrow.Author.Needs.{needs}
-use Rattle.numbers.specs.Words.{integerBytes}
+use Rattle.words.specs.Words.{integerBytes}
 use Rattle.numbers.proofs.IntegerLaws.{read32}
 use Rattle.records.proofs.StoreLaws.{run-after}
 use Rattle.records.proofs.events.store_byte_and_integer.Statement.{statement}

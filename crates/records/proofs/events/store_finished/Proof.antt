@@ -4,7 +4,7 @@ use mathlib.Core.List.{[], _∷_, _++_}
 use mathlib.Core.Path.{refl}
 use lib.ListN.{length-set}
 use borrow.Author.Needs.{needs}
-use Rattle.numbers.specs.Words.{lowFirst, integerBytes}
+use Rattle.words.specs.Words.{lowFirst, integerBytes}
 use Rattle.parties.specs.SetBytes.{setBytes}
 use Rattle.numbers.proofs.IntegerLaws.{read32}
 use Rattle.records.specs.Events.{eventBytes}

@@ -1,7 +1,7 @@
 -- `records::events::store_opened` meets its contract. Assumes nothing.
 use mathlib.Core.List.{_∷_}
 use borrow.Author.Needs.{needs}
-use Rattle.numbers.specs.Words.{integerBytes, lowFirst}
+use Rattle.words.specs.Words.{integerBytes, lowFirst}
 use Rattle.parties.specs.SetBytes.{setBytes}
 use Rattle.numbers.proofs.IntegerLaws.{read32}
 use Rattle.records.specs.Events.{eventBytes}

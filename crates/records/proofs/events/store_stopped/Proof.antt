@@ -6,7 +6,7 @@ use native.Mathlib.Omega.{arith}
 use mathlib.Core.List.{[], _∷_}
 use native.Mathlib.Numerals.{add-one}
 use borrow.Author.Needs.{needs}
-use Rattle.numbers.specs.Words.{lowFirst}
+use Rattle.words.specs.Words.{lowFirst}
 use Rattle.records.specs.Events.{eventBytes}
 use Rattle.records.proofs.StoreLaws.{run-after}
 use Rattle.records.proofs.events.store_stopped.Statement.{statement}

@@ -8,7 +8,7 @@ use lib.ListN.{replicate}
 use borrow.Author.Needs.{needs}
 use Rattle.rules.specs.Lent.{Lent, roomOf}
 use Rattle.invariants.proofs.LeftLaws.{rooms-within}
-use Rattle.ledger.proofs.InputLaws.{counts-fit-is}
+use Rattle.inputs.proofs.InputLaws.{counts-fit-is}
 use Rattle.ledger.proofs.LentLaws.{bounds, short-room, short-places, short-work, enough, fit-parts}
 use Rattle.single.proofs.CallLaws.{call-counts, call-short, call-runs}
 use Rattle.single.proofs.runs.run_good.Statement.{statement}

@@ -5,7 +5,7 @@ use mathlib.Core.List.{List}
 use Prim.Native.Nat.{ℕ, _-_}
 use native.Mathlib.Omega.{arith}
 use lib.ListN.{length}
-use Rattle.single.specs.Steps.{Lists}
+use Rattle.single_step.specs.Steps.{Lists}
 use Rattle.single.proofs.RunLaws.{Going, going-start, goes-on, goes-end, goes-stop, goes-out}
 use Rattle.single.proofs.runs.run_on.Statement.{statement}
 use Rattle.single.proofs.runs.run_on.Tie as tie

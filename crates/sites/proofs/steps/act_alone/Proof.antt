@@ -5,7 +5,7 @@ use native.Mathlib.Omega.{arith}
 use lib.ListN.{getD}
 use Rattle.rules.specs.Lent.{areaSize}
 use Rattle.sites.specs.Turns.{once}
-use Rattle.sites.proofs.RowLaws.{row-length}
+use Rattle.concludes.proofs.RowLaws.{row-length}
 use Rattle.sites.proofs.TurnLaws.{taken-inside, alone-by, alone-none}
 use borrow.Author.Needs.{needs}
 use Rattle.sites.proofs.steps.act_alone.Statement.{statement}

@@ -3,10 +3,10 @@ use mathlib.Core.Path.{sym, _∙_, subst}
 use native.Mathlib.Omega.{arith}
 use Rattle.rules.specs.Lent.{areaSize}
 use Rattle.invariants.proofs.RowLaws.{rows}
-use Rattle.area.specs.Seats.{DeepSeat}
-use Rattle.area.proofs.SeatLaws.{seat-deep}
+use Rattle.seats.specs.Seats.{DeepSeat}
+use Rattle.seats.proofs.SeatLaws.{seat-deep}
 use Rattle.meets.specs.Places.{areaOf}
-use Rattle.sites.proofs.RowLaws.{row-length}
+use Rattle.concludes.proofs.RowLaws.{row-length}
 use Rattle.sites.proofs.TurnLaws.{turn-over, turn-meets, turn-acts}
 use borrow.Author.Needs.{needs}
 use Rattle.sites.proofs.turns.turn.Statement.{statement}

@@ -1,0 +1,88 @@
+-- Whether a site is at a meeting, from where it stands and what it is asked to do; and whether it agrees. Assumes nothing.
+use mathlib.Core.Path.{_≡_, refl}
+use mathlib.Core.Bool.{Bool, true, false, not}
+use mathlib.Core.List.{List, [], _∷_}
+use Prim.Native.Nat.{ℕ}
+use borrow.Author.Tests.{ne-eqb, eq-eqb}
+use lib.IntN.{ℤ}
+use Rattle.numbers.specs.Integers.{sameInteger}
+use Rattle.parties.specs.Sets.{member, sameSet}
+use Rattle.limits.specs.declared.Party.{Party}
+use Rattle.parties.specs.declared.sets.PartySet.{PartySet}
+use Rattle.rules.specs.Books.{Book}
+use Rattle.rules.specs.Single.{Setting}
+use Rattle.rules.specs.Joint.{away, attendance, agrees}
+use Rattle.rules.specs.declared.effects.Meeting.{Meeting}
+use Rattle.rules.specs.declared.effects.Offer.{Offer}
+use Rattle.rules.specs.declared.effects.Offer.the-variants.{Empty, Secret}
+use Rattle.rules.specs.declared.effects.Effect.{Effect}
+use Rattle.area.specs.Levels.{controlOf}
+use Rattle.seats.specs.Seats.{seatAt, seated, siteOf}
+use Rattle.area.specs.declared.stand.Stand.{Stand}
+use Rattle.seats.specs.declared.Seat.{Seat}
+use Rattle.seats.specs.declared.Seat.the-variants.{Running, Finished, Stopped}
+use Rattle.site.specs.Own.{Owns}
+use Rattle.attends.specs.Attends.{told, AttendsFrom, IsAt}
+use Rattle.site.specs.declared.own.Own.{Own}
+use Rattle.site.specs.declared.own.Own.the-variants.{Acts, Attends}
+use Rattle.attends.specs.declared.Attendance.{Attendance}
+use Rattle.attends.specs.declared.Attendance.the-variants.{Away, There}
+
+-- ---- a site that stands at t
+module _ (bs : List ℕ) (nodes : ℕ) (t : Stand) (e : ℕ) (m : PartySet) (P : Party) (room u : ℕ) (w : List ℕ) where
+  pub at-node : (t .node ≡ e → ⊥) → AttendsFrom bs nodes t e m P room u Away w
+  unfolding attendance controlOf
+  at-node h = record { comes = λ p g len places b o. rw (ne-eqb (t .node) e h) }
+
+  module _ (same : t .node ≡ e) where
+    pub at-mode : sameSet (t .mode) m ≡ false → AttendsFrom bs nodes t e m P room u Away w
+    unfolding attendance controlOf
+    at-mode h = record { comes = λ p g len places b o. rw (eq-eqb (t .node) e same, h) }
+
+    module _ (mode : sameSet (t .mode) m ≡ true) (r : Own) (owns : Owns bs nodes P t room u r w) where
+      pub at-acts : (effect : Effect) → r ≡ Acts effect → AttendsFrom bs nodes t e m P room u Away w
+      unfolding attendance controlOf
+      at-acts effect q =
+          record { comes = λ p g len places b o. rw (eq-eqb (t .node) e same, mode, owns .comes p g len places b o, q) }
+
+      pub at-there : (mt : Meeting) (o : Offer) → r ≡ Attends mt o → AttendsFrom bs nodes t e m P room u (There o) w
+      unfolding attendance controlOf
+      at-there mt o q =
+          record { comes = λ p g len places b u. rw (eq-eqb (t .node) e same, mode, owns .comes p g len places b u, q) }
+
+-- ---- any site
+module _ (bs : List ℕ) (nodes e : ℕ) (m : PartySet) (P : Party) (room u : ℕ) (w : List ℕ) (seat : Seat) (sits : seat ≡ seatAt w) where
+  pub at-running : (t : Stand) (r : Attendance) → seat ≡ Running t → AttendsFrom bs nodes t e m P room u r w → IsAt bs nodes e m P room u r w
+  unfolding siteOf
+  at-running t r runs a = record { comes = λ p g len places b o. rw (← sits, runs) (a .comes p g len places b o) }
+
+  pub at-finished : seat ≡ Finished → IsAt bs nodes e m P room u Away w
+  unfolding attendance siteOf
+  at-finished over = record { comes = λ p g len places b o. rw (← sits, over) }
+
+  pub at-stopped : seat ≡ Stopped → IsAt bs nodes e m P room u Away w
+  unfolding attendance siteOf
+  at-stopped over = record { comes = λ p g len places b o. rw (← sits, over) }
+
+-- ---- agreement
+module _ (i : ℤ) (h : PartySet) (P : ℕ) where
+  pub away-not : (a : Attendance) → a ≡ Away → false ≡ agrees i h P (told a)
+  unfolding agrees
+  away-not a q = rw q
+
+  pub empty-hands : (a : Attendance) (o : Offer) (in′ : Bool) → a ≡ There o → o ≡ Empty → in′ ≡ member P h → not in′ ≡ agrees i h P (told a)
+  unfolding agrees
+  empty-hands a o in′ q z m = rw (q, z, m)
+
+  module _ (a : Attendance) (o : Offer) (j : ℤ) (k : PartySet) (there′ : a ≡ There o) (brings : o ≡ Secret j k) where
+    pub not-bringer : member P h ≡ false → false ≡ agrees i h P (told a)
+    unfolding agrees
+    not-bringer m = rw (there′, brings, m)
+
+    pub other-bringers : member P h ≡ true → sameSet k h ≡ false → false ≡ agrees i h P (told a)
+    unfolding agrees
+    other-bringers m s = rw (there′, brings, m, s)
+
+    pub same-number : (r : Bool) → member P h ≡ true → sameSet k h ≡ true → r ≡ sameInteger j i → r ≡ agrees i h P (told a)
+    unfolding agrees
+    same-number r m s e = rw (there′, brings, m, s) e

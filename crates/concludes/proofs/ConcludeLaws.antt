@@ -1,0 +1,198 @@
+-- A meeting is concluded: a member's part, one site's, and all of them one after the other. Assumes nothing.
+use mathlib.Core.Path.{_≡_, refl, sym, ap, _∙_, subst}
+use mathlib.Core.Bool.{false, _&&_, cond}
+use mathlib.Core.List.{List, [], _∷_, append-nil}
+use Prim.Native.Nat.{ℕ, _+_, _*_, _≤_, _<_}
+use native.Mathlib.Nat.{add-zero}
+use native.Mathlib.Decide.{decLt, ℕ-discrete}
+use native.Mathlib.Omega.{arith}
+use borrow.Author.Tests.{lt-ltb, le-ltb}
+use denote.Enum.{Declared.tagOf}
+use types.Run.{miss}
+use lib.Dec.{ltb}
+use lib.IntN.{ℤ}
+use lib.ListN.{length, getD, set}
+use Rattle.limits.specs.Limits.{maxParties}
+use Rattle.parties.specs.Sets.{member, nextFrom}
+use Rattle.limits.specs.declared.Party.{Party}
+use Rattle.parties.specs.declared.sets.PartySet.{PartySet}
+use Rattle.parties.proofs.LoopLaws.{LoopAt, loop-next, loop-here, loop-over}
+use Rattle.values.specs.Values.{slice}
+use Rattle.records.specs.Events.{written, heldBack}
+use Rattle.refusals.specs.Numbers.{disagreement}
+use Rattle.rules.specs.Books.{Book, used, handed, eventOf}
+use Rattle.rules.specs.Lent.{areaSize}
+use Rattle.rules.specs.Single.{Setting}
+use Rattle.rules.specs.Joint.{Site, Sites, running, stop, joinsBy, joins, parts, putAll, bookOf}
+use Rattle.rules.specs.declared.effects.Move.the-variants.{Hand}
+use Rattle.rules.specs.declared.effects.Meeting.{Meeting}
+use Rattle.rules.specs.declared.effects.Offer.{Offer}
+use Rattle.rules.specs.declared.effects.Effect.{Effect}
+use Rattle.invariants.specs.Room.{Fits}
+use Rattle.area.specs.Levels.{controlOf}
+use Rattle.seats.specs.Seats.{seatAt, seated, siteOf}
+use Rattle.area.specs.declared.stand.Stand.{Stand}
+use Rattle.seats.specs.declared.Seat.{Seat}
+use Rattle.seats.specs.declared.Seat.the-variants.{Running, Finished, Stopped}
+use Rattle.site.specs.Own.{Owns}
+use Rattle.acts.specs.Acts.{Took, Takes, Settles}
+use Rattle.site.specs.declared.own.Own.{Own}
+use Rattle.site.specs.declared.own.Own.the-variants.{Acts, Attends}
+use Rattle.meets.specs.Places.{row, areaOf, settingOf, Given, Stands}
+use Rattle.concludes.specs.Concludes.{concluding, TakesPart, ConcludesOne, ConcludesAll}
+use Rattle.concludes.specs.declared.Outcome.{Outcome}
+use Rattle.concludes.specs.declared.Outcome.the-variants.{Joins, Parts}
+use Rattle.concludes.proofs.RowLaws.{back, row-length}
+use Rattle.concludes.proofs.StandLaws.{NotRunning, stands-same, stands-length, stands-long, stands-changed}
+
+-- ---- a member's part, on its own record and area
+module _ (bs : List ℕ) (nodes : ℕ) (outcome : Outcome) (t : Stand) (P : Party) (u : ℕ) (xs w : List ℕ) where
+  pub parts-with : (u′ : ℕ) (xs′ w′ : List ℕ) → outcome ≡ Parts → Takes (stop disagreement (t .node)) u xs w u′ xs′ w′ → TakesPart bs nodes outcome t P u xs w u′ xs′ w′
+  unfolding parts controlOf
+  parts-with u′ xs′ w′ q s = rw q (record { part = λ p g len places seat b o h. s .took b o h; table = s .table })
+
+  module _ (i : ℤ) (joins′ : outcome ≡ Joins i) (r : Own) (owns : Owns bs nodes P t (length xs) u r w) where
+    -- it is not at the meeting
+    pub joins-not : (effect : Effect) → r ≡ Acts effect → TakesPart bs nodes outcome t P u xs w u xs w
+    unfolding joins joinsBy siteOf
+    joins-not effect q =
+        rw joins′
+        record {
+          part = λ p g len places seat b o h.
+              rw (owns .comes p g len places b o, q)
+              record {
+                more = [];
+                bytes = refl;
+                count = sym (add-zero u);
+                grown = sym (append-nil (written (b .events)));
+                fits = rw o h;
+                stands = rw seat;
+              };
+          table = refl;
+        }
+
+    pub joins-in : (mt : Meeting) (o : Offer) (u′ : ℕ) (xs′ w′ : List ℕ) → r ≡ Attends mt o → Settles (eventOf mt i) (Hand (slice (P .index) (handed mt i))) t P u xs w u′ xs′ w′
+        → TakesPart bs nodes outcome t P u xs w u′ xs′ w′
+    unfolding joins joinsBy
+    joins-in mt o u′ xs′ w′ q s =
+        rw joins′
+        record {
+          part = λ p g len places seat b e h. rw (owns .comes p g len places b e, q) (s .settles (settingOf p (length xs)) refl .took b e h);
+          table = s .table;
+        }
+
+-- ---- one site
+-- who runs no more comes to nothing else
+over-stays : (outcome : Outcome) (S : Setting) (P : ℕ) (seat : Seat) (w : List ℕ) (b : Book) → NotRunning seat → concluding outcome S P (seated seat w b) ≡ seated seat w b
+unfolding joins parts
+over-stays outcome S P (Running t) w b h = absurd (miss (1 ∷ 2 ∷ []) 0 tt h)
+over-stays (Joins i) S P Finished w b h = refl
+over-stays Parts S P Finished w b h = refl
+over-stays (Joins i) S P Stopped w b h = refl
+over-stays Parts S P Stopped w b h = refl
+
+module _ (bs : List ℕ) (nodes : ℕ) (outcome : Outcome) (P room : ℕ) (bytes lengths work : List ℕ) (seat : Seat) (sits : seat ≡ seatAt (areaOf P work)) where
+  pub member-over : NotRunning seat → ConcludesOne bs nodes outcome P room bytes lengths work bytes lengths work
+  unfolding siteOf
+  member-over h =
+      record {
+        comes = λ n G J J′ inside st own others.
+            let S : Setting = settingOf (G .program) room in
+            let e : J P ≡ seated seat (areaOf P work) (bookOf (J P)) = st .sits P inside ∙ rw (← sits) in
+            let k : concluding outcome S P (J P) ≡ J P = ap (concluding outcome S P) e ∙ over-stays outcome S P seat (areaOf P work) (bookOf (J P)) h ∙ sym e in
+            stands-same G J J′ bytes lengths work st
+            (λ Q h. elim (ℕ-discrete Q P) [
+              | yes e ↦ rw e (own ∙ k)
+              | no d ↦ others Q d
+            ]);
+      }
+
+  module _ (t : Stand) (runs : seat ≡ Running t) (u′ : ℕ) (ys ws : List ℕ) (area : length ws ≡ areaSize) (long : P * areaSize + areaSize ≤ length work)
+      (takes : TakesPart bs nodes outcome t (record { index = P }) (getD lengths P 0) (row room P bytes) (areaOf P work) u′ ys ws) where
+    pub member-runs : ConcludesOne bs nodes outcome P room bytes lengths work (back room P bytes ys) (set lengths P u′) (back areaSize P work ws)
+    unfolding siteOf
+    member-runs =
+        record {
+          comes = λ n G J J′ inside st own others.
+              let S : Setting = settingOf (G .program) room in
+              let b : Book = bookOf (J P) in
+              let c : J P ≡ running (controlOf t (areaOf P work)) b = st .sits P inside ∙ rw (← sits, runs) in
+              let room-is : length (row room P bytes) ≡ room = row-length room P bytes (stands-long G J J bytes lengths work st P inside) in
+              let fits : used b + heldBack ≤ room = subst (λ (s : Site). Fits room s) c (st .fits P inside) in
+              let count : used b ≡ getD lengths P 0 = stands-length G J J bytes lengths work st P inside in
+              let k : Took b (concluding outcome (settingOf (G .program) (length (row room P bytes))) P (running (controlOf t (areaOf P work)) b)) (getD lengths P 0) (row room P bytes) u′ ys ws
+              = takes .part (G .program) (G .sound) (G .count) (st .tables P inside) (sym sits ∙ runs) b count (rw (← count, room-is) fits) in
+              let s : J′ P ≡ concluding outcome (settingOf (G .program) (length (row room P bytes))) P (running (controlOf t (areaOf P work)) b)
+              = own ∙ ap (concluding outcome S P) c ∙ ap (λ (R : ℕ). concluding outcome (settingOf (G .program) R) P (running (controlOf t (areaOf P work)) b)) (sym room-is) in
+              stands-changed G J J′ bytes lengths work st P inside others u′ ys ws long area
+              (subst (λ (x : Site). Took b x (getD lengths P 0) (row room P bytes) u′ ys ws) (sym s) k) (takes .table);
+        }
+
+-- ---- all members, one after the other
+-- the sites once those below k have come to their conclusion
+unfoldable pub below : ℕ → PartySet → (ℕ → Site → Site) → Sites → Sites
+below k m f J = λ Q. cond (ltb Q k && member Q m) (f Q (J Q)) (J Q)
+
+below-own : (k : ℕ) (m : PartySet) (f : ℕ → Site → Site) (J : Sites) → below (k + 1) m f J k ≡ cond (member k m) (f k (below k m f J k)) (below k m f J k)
+unfolding below
+below-own k m f J = rw (lt-ltb k (k + 1) (omega arith), le-ltb k k (omega arith))
+
+below-other : (k : ℕ) (m : PartySet) (f : ℕ → Site → Site) (J : Sites) (Q : ℕ) → (Q ≡ k → ⊥) → below (k + 1) m f J Q ≡ below k m f J Q
+unfolding below
+below-other k m f J Q d =
+    elim (decLt Q k) [
+      | yes l ↦ rw (lt-ltb Q k l, lt-ltb Q (k + 1) (omega arith))
+      | no l ↦ rw (le-ltb Q k (omega arith), le-ltb Q (k + 1) (omega arith))
+    ]
+
+module _ (bs : List ℕ) (nodes : ℕ) (outcome : Outcome) (m : PartySet) (n room : ℕ) (bytes₀ lengths₀ work₀ : List ℕ) where
+  -- the bytes hold the sites once those below k have come to their conclusion
+  pub record Going (bytes lengths work : List ℕ) (k : ℕ) : Type 0 where
+    pub so : (G : Given bs nodes room n) (J : Sites) → Stands G J bytes₀ lengths₀ work₀ → Stands G (below k m (concluding outcome (settingOf (G .program) room)) J) bytes lengths work
+
+  -- the loop is at party p
+  abbrev pub GoingAt : (bytes lengths work : List ℕ) → ℕ → Type 0
+  GoingAt bytes lengths work p = LoopAt (Going bytes lengths work) m n p
+
+  module _ (bytes lengths work : List ℕ) where
+    -- who is no member does nothing
+    going-out : (k : ℕ) → member k m ≡ false → Going bytes lengths work k → Going bytes lengths work (k + 1)
+    going-out k out g =
+        record {
+          so = λ G J st.
+              let f : ℕ → Site → Site = concluding outcome (settingOf (G .program) room) in
+              stands-same G (below k m f J) (below (k + 1) m f J) bytes lengths work (g .so G J st)
+              (λ Q h. elim (ℕ-discrete Q k) [
+                | yes e ↦ rw e (below-own k m f J ∙ rw out)
+                | no d ↦ below-other k m f J Q d
+              ]);
+        }
+
+    going-next : (a p : ℕ) → n ≤ maxParties → a ≤ n → p ≡ nextFrom a m → Going bytes lengths work a → GoingAt bytes lengths work p
+    going-next a p few h q g = rw q (loop-next (Going bytes lengths work) m n few going-out a h g)
+
+    pub going-more : (k : ℕ) (bytes′ lengths′ work′ : List ℕ) (p : ℕ) → n ≤ maxParties → k < n → GoingAt bytes′ lengths′ work′ k → ConcludesOne bs nodes outcome k room bytes′ lengths′ work′ bytes lengths work
+        → p ≡ nextFrom (k + 1) m → GoingAt bytes lengths work p
+    going-more k bytes′ lengths′ work′ p few h l c q =
+        going-next (k + 1) p few (omega arith) q
+        record {
+          so = λ G J st.
+              let f : ℕ → Site → Site = concluding outcome (settingOf (G .program) room) in
+              c .comes n G (below k m f J) (below (k + 1) m f J) h (loop-here (Going bytes′ lengths′ work′) m n k h l .so G J st)
+              (below-own k m f J ∙ rw (l .inside h)) (below-other k m f J);
+        }
+
+    pub going-all : (p : ℕ) → n ≤ p → GoingAt bytes lengths work p → ConcludesAll bs nodes outcome m n room bytes₀ lengths₀ work₀ bytes lengths work
+    unfolding below putAll
+    going-all p h l =
+        record {
+          comes = λ G J st.
+              let f : ℕ → Site → Site = concluding outcome (settingOf (G .program) room) in
+              stands-same G (below n m f J) (putAll m f J) bytes lengths work (loop-over (Going bytes lengths work) m n p h l .so G J st) (λ Q h. rw (lt-ltb Q n h));
+        }
+
+  pub going-none : (p : ℕ) → n ≤ maxParties → p ≡ nextFrom 0 m → GoingAt bytes₀ lengths₀ work₀ p
+  unfolding below
+  going-none p few q =
+      going-next bytes₀ lengths₀ work₀ 0 p few (omega arith) q
+      (record { so = λ G J st. stands-same G J (below 0 m (concluding outcome (settingOf (G .program) room)) J) bytes₀ lengths₀ work₀ st (λ Q h. rw (le-ltb Q 0 (omega arith))) })

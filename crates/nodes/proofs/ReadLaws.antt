@@ -1,0 +1,59 @@
+-- Reading a program's bytes: at a place of the program, and of the bytes from a place on. Assumes nothing.
+use mathlib.Core.Path.{_≡_, refl, sym, ap, _∙_}
+use mathlib.Core.List.{List, [], _∷_}
+use Prim.Native.Nat.{ℕ, zero, suc, _+_, _-_, _*_, _≤_}
+use native.Mathlib.Nat.{add-assoc}
+use native.Mathlib.Omega.{arith}
+use lib.ListN.{length, getD, drop, List·getD-eq-default}
+use lib.Seq.{getD-drop}
+use Rattle.numbers.specs.Integers.{signed}
+use Rattle.numbers.specs.declared.integers.Operation.the-variants.{Lt}
+use Rattle.words.specs.Words.{numberAt, integerAt}
+use Rattle.words.proofs.WordLaws.{number-same}
+use Rattle.nodes.specs.Nodes.{nodeOf, nodeIn, operationOf}
+use Rattle.nodes.specs.declared.Node.the-variants.{READ}
+use Rattle.nodes.specs.RangeLaws.{past, every, NoneOf}
+
+pub number-drop : (k a : ℕ) (p : List ℕ) (i : ℕ) → numberAt k (drop a p) i ≡ numberAt k p (a + i)
+number-drop k a p i = number-same k (drop a p) i p (a + i) (λ l h. getD-drop a p (i + l) 0 ∙ rw (add-assoc a i l))
+
+-- no byte past the end
+pub number-past : (k : ℕ) (p : List ℕ) (i : ℕ) → length p ≤ i → numberAt k p i ≡ 0
+unfolding numberAt
+number-past zero p i h = refl
+number-past (suc k) p i h = rw (List·getD-eq-default p 0 h, number-past k p (i + 1) (omega arith))
+
+-- two numbers of two bytes make an integer
+pub two-halves : (p : List ℕ) (i : ℕ) {a b : ℕ} → a ≡ numberAt 2 p i → b ≡ numberAt 2 p (i + 2) → signed (a + 65536 * b) ≡ integerAt p i
+unfolding numberAt
+two-halves p i {a} {b} e f = let s : a + 65536 * b ≡ numberAt 4 p i = simp add-assoc (omega (arith, simp add-assoc at f)) in ap signed s
+
+pub kind-is : {b : ℕ} (p : List ℕ) (at k : ℕ) → b ≡ getD p at 0 → b ≡ k → nodeOf k (drop (at + 1) p) ≡ nodeIn p at
+unfolding nodeIn
+kind-is p at k e f = ap (λ (j : ℕ). nodeOf j (drop (at + 1) p)) (sym f ∙ e)
+
+-- the kinds that no arm of `node_at` has are READ's, or no node's
+abbrev Others : ℕ → Type 0
+Others k = NoneOf (13 ∷ 12 ∷ 11 ∷ 10 ∷ 9 ∷ 8 ∷ 7 ∷ 6 ∷ 4 ∷ 3 ∷ 2 ∷ 1 ∷ []) k
+
+pub other-read : (k : ℕ) (b : List ℕ) → Others k → READ ≡ nodeOf k b
+unfolding nodeOf
+other-read k b =
+    every (λ (j : ℕ). Others j → READ ≡ nodeOf j b) 4
+    (λ n. refl, (λ n. absurd (n .0 .0 .0 .0 .0 .0 .0 .0 .0 .0 .0 .1 refl), (λ n. absurd (n .0 .0 .0 .0 .0 .0 .0 .0 .0 .0 .1 refl), (λ n. absurd (n .0 .0 .0 .0 .0 .0 .0 .0 .0 .1 refl), tt))))
+    (every (λ (j : ℕ). Others (past 4 j) → READ ≡ nodeOf (past 4 j) b) 4
+    (λ n. absurd (n .0 .0 .0 .0 .0 .0 .0 .0 .1 refl), (λ n. refl, (λ n. absurd (n .0 .0 .0 .0 .0 .0 .0 .1 refl), (λ n. absurd (n .0 .0 .0 .0 .0 .0 .1 refl), tt))))
+    (every (λ (j : ℕ). Others (past 8 j) → READ ≡ nodeOf (past 8 j) b) 6
+    (λ n. absurd (n .0 .0 .0 .0 .0 .1 refl), (λ n. absurd (n .0 .0 .0 .0 .1 refl), (λ n. absurd (n .0 .0 .0 .1 refl), (λ n. absurd (n .0 .0 .1 refl), (λ n. absurd (n .0 .1 refl), (λ n. absurd (n .1 refl), tt))))))
+    (λ m n. refl)))
+    k
+
+-- and those that no arm of `operation_of` has are lt's, or no operation's
+pub other-operation : {o : ℕ} → NoneOf (3 ∷ 2 ∷ 1 ∷ 0 ∷ []) o → Lt ≡ operationOf o
+unfolding operationOf
+other-operation {o = zero} a = absurd (a .0 .0 .0 .1 refl)
+other-operation {o = suc zero} a = absurd (a .0 .0 .1 refl)
+other-operation {o = suc (suc zero)} a = absurd (a .0 .1 refl)
+other-operation {o = suc (suc (suc zero))} a = absurd (a .1 refl)
+other-operation {o = suc (suc (suc (suc zero)))} a = refl
+other-operation {o = suc (suc (suc (suc (suc k))))} a = refl

@@ -1,0 +1,118 @@
+// The nodes of a program, with their fields as document 01's table has them, and reading one at its place.
+// Reading answers zeros past the program's end, so that no reader needs a fact of the check.
+ghost use mathlib.Core.Path.{_≡_};
+ghost use Prim.Native.Nat.{_<_};
+ghost use lib.ListN.{getD};
+ghost use Rattle.words.specs.Words.{numberAt, integerAt};
+ghost use Rattle.parties.specs.SetBytes.{setAt};
+ghost use Rattle.nodes.specs.Nodes.{operationOf, nameIn, nodeIn};
+use limits::Name;
+use limits::Party;
+use numbers::integers::Operation;
+use parties::sets::PartySet;
+
+pub enum Node {
+    VAR(Name),
+    INT(i32),
+    // o, x, y
+    OP(u8, Name, Name),
+    MUX(Name, Name, Name),
+    READ,
+    WRITE(Name),
+    EMBED(Name),
+    // a, q, x
+    SHARE(Party, PartySet, Name),
+    // q, x
+    REVEAL(PartySet, Name),
+    // x, e1, e2
+    LET(Name, u16, u16),
+    CASE(Name, u16, u16),
+    // p, e
+    PAR(PartySet, u16),
+    // f, x
+    CALL(u16, Name),
+}
+
+impl Node {
+    // A program has at most so many.
+    pub const MAX: usize = 1024;
+}
+
+pub fn operation_of(o: u8) -> Operation
+    ensures { λ r. ⌜ r ≡ operationOf o ⌝ }
+{
+    match o {
+        0 => Operation::Add,
+        1 => Operation::Sub,
+        2 => Operation::Mul,
+        3 => Operation::Eq,
+        _ => Operation::Lt,
+    }
+}
+
+pub fn byte(p: &[u8], i: usize) -> u8
+    ensures { λ r. ⌜ r ≡ getD (now (p .entry)) i 0 ⌝ }
+{
+    if i < p.len() { p[i] } else { 0 }
+}
+
+// A byte as a wider number: the cast is proved here once.
+fn wide(b: u8) -> u32
+    ensures { λ r. ⌜ (r ≡ b) × (r < 256) ⌝ }
+{
+    b as u32
+}
+
+pub fn half(p: &[u8], i: usize) -> u16
+    ensures { λ r. ⌜ r ≡ numberAt 2 (now (p .entry)) i ⌝ }
+{
+    if i < p.len() {
+        return (wide(p[i]) + 256 * wide(byte(p, i + 1))) as u16;
+    }
+    0
+}
+
+pub fn word(p: &[u8], i: usize) -> i32
+    requires { ⌜ i < 131072 ⌝ }
+    ensures { λ r. ⌜ r ≡ integerAt (now (p .entry)) i ⌝ }
+{
+    words::signed(half(p, i) as u32 + 65536 * (half(p, i + 2) as u32))
+}
+
+pub fn set_at(p: &[u8], i: usize) -> PartySet
+    ensures { λ r. ⌜ r ≡ setAt (now (p .entry)) i ⌝ }
+{
+    PartySet { bits: half(p, i) }
+}
+
+fn name_at(p: &[u8], i: usize) -> Name
+    ensures { λ r. ⌜ r ≡ nameIn (now (p .entry)) i ⌝ }
+{
+    Name { index: byte(p, i) }
+}
+
+pub fn node_at(p: &[u8], at: usize) -> Node
+    requires { ⌜ at < 65536 ⌝ }
+    ensures { λ r. ⌜ r ≡ nodeIn (now (p .entry)) at ⌝ }
+{
+    let b = at + 1;
+    match byte(p, at) {
+        1 => Node::VAR(name_at(p, b)),
+        2 => Node::INT(word(p, b)),
+        3 => Node::OP(byte(p, b), name_at(p, b + 1), name_at(p, b + 2)),
+        4 => Node::MUX(name_at(p, b), name_at(p, b + 1), name_at(p, b + 2)),
+        6 => Node::WRITE(name_at(p, b)),
+        7 => Node::EMBED(name_at(p, b)),
+        8 => Node::SHARE(
+            Party { index: byte(p, b) },
+            set_at(p, b + 1),
+            name_at(p, b + 3),
+        ),
+        9 => Node::REVEAL(set_at(p, b), name_at(p, b + 2)),
+        10 => Node::LET(name_at(p, b), half(p, b + 1), half(p, b + 3)),
+        11 => Node::CASE(name_at(p, b), half(p, b + 1), half(p, b + 3)),
+        12 => Node::PAR(set_at(p, b), half(p, b + 2)),
+        13 => Node::CALL(half(p, b), name_at(p, b + 2)),
+        _ => Node::READ,
+    }
+}

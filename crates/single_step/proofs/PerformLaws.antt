@@ -1,0 +1,154 @@
+-- Each effect, done in the lent bytes, from what its parts say. Assumes nothing.
+use mathlib.Core.Path.{_≡_, refl, sym, ap, _∙_, subst}
+use mathlib.Core.Bool.{Bool, true, false, cond}
+use mathlib.Core.List.{List}
+use mathlib.Core.Option.{none, some}
+use Prim.Native.Nat.{ℕ}
+use lib.IntN.{ℤ, pos}
+use Rattle.limits.specs.Limits.{maxParties}
+use Rattle.parties.specs.Sets.{member}
+use Rattle.parties.specs.declared.sets.PartySet.{PartySet}
+use Rattle.values.specs.declared.value.Value.the-variants.{Clear}
+use Rattle.program.specs.Check.{Program, nodeAt}
+use Rattle.nodes.specs.declared.Node.{Node}
+use Rattle.records.specs.Events.{written}
+use Rattle.records.specs.declared.events.Event.{Event}
+use Rattle.records.specs.declared.events.Event.the-variants.{Wrote}
+use Rattle.refusals.specs.Numbers.{wrongValue, noRoom}
+use Rattle.rules.specs.Books.{Book, Books, handed, eventOf, eventFor, roomFor, add, note}
+use Rattle.rules.specs.Moves.{move}
+use Rattle.rules.specs.Rules.{rule}
+use Rattle.rules.specs.declared.effects.View.the-variants.{Whole}
+use Rattle.rules.specs.declared.effects.Effect.{Effect}
+use Rattle.rules.specs.Single.{stopped, allOf, noteAll, arrive, settleAll, perform, step}
+use Rattle.rules.specs.declared.effects.Move.{Move}
+use Rattle.rules.specs.declared.effects.Move.the-variants.{Hand}
+use Rattle.rules.specs.declared.effects.Meeting.{Meeting}
+use Rattle.rules.specs.declared.effects.Offer.the-variants.{Empty, Secret}
+use Rattle.rules.specs.declared.effects.Effect.the-variants.{Refuse, Goes, Reads, Writes, Meets}
+use Rattle.invariants.proofs.AllOfLaws.{all-by}
+use Rattle.invariants.proofs.BookLaws.{none-taken}
+use Rattle.area.specs.Levels.{controlOf, namesAt}
+use Rattle.table.specs.Table.{PlacesIn, nodeBy}
+use Rattle.table.proofs.TableLaws.{node-by}
+use Rattle.area.specs.declared.stand.Stand.{Stand}
+use Rattle.inputs.specs.Inputs.{InputsHold}
+use Rattle.single_step.specs.Steps.{Lists, Given, Stands, Comes, Moved, Settles, ReadsIn, Performs, StepsOn}
+use Rattle.single_step.specs.declared.Stepped.{Stepped}
+use Rattle.single_step.specs.declared.Stepped.the-variants.{Stopped}
+use Rattle.ledger.proofs.RowLaws.{holds-same}
+use Rattle.inputs.proofs.InputLaws.{inputs-same}
+
+-- ---- an effect that notes nothing
+
+noted-none : (m : PartySet) (b : Books) (P : ℕ) → noteAll m none b P ≡ b P
+unfolding noteAll note
+noted-none m b P = go (member P m)
+  where
+    go : (t : Bool) → cond t (b P) (b P) ≡ b P
+    go true = refl
+    go false = refl
+
+all-free : (n : ℕ) (m : PartySet) (R : ℕ) (b : Books) → allOf n m (λ P. roomFor R P none (b P)) ≡ true
+unfolding roomFor
+all-free n m R b = all-by m (λ P. roomFor R P none (b P)) n (λ P l i. refl)
+
+stands-none : {room n : ℕ} (G : Given room n) (m : PartySet) (b : Books) (l : Lists) (at : List ℕ) → at ≡ l .at → Stands G b l
+    → Stands G (noteAll m none b) (record { bytes = l .bytes; lengths = l .lengths; work = l .work; at = at })
+stands-none {room} {n} G m b l at e st =
+    record {
+      holds = holds-same room n b (noteAll m none b) (G .bytes₀) (G .lengths₀) (l .bytes) (l .lengths) (st .holds) (λ P h. ap (λ (x : Book). written (x .events)) (noted-none m b P));
+      fits = λ P h. rw (noted-none m b P) (st .fits P h);
+      inputs = λ P h. rw (noted-none m b P, e) (st .inputs P h);
+    }
+
+-- ---- an event that takes no input
+
+all-keep : (ev : Event) → ((P : ℕ) (b : Book) → note P (some ev) b .inputs ≡ b .inputs) → (m : PartySet) (b : Books) (P : ℕ) → noteAll m (some ev) b P .inputs ≡ b P .inputs
+unfolding noteAll
+all-keep ev keeps m b P = go (member P m)
+  where
+    go : (t : Bool) → cond t (note P (some ev) (b P)) (b P) .inputs ≡ b P .inputs
+    go true = keeps P (b P)
+    go false = refl
+
+write-free : (i : ℤ) (m : PartySet) (b : Books) (P : ℕ) → noteAll m (some (Wrote i)) b P .inputs ≡ b P .inputs
+unfolding note eventFor add
+write-free i = all-keep (Wrote i) (λ P b. refl)
+
+meeting-free : (mt : Meeting) (i : ℤ) (m : PartySet) (b : Books) (P : ℕ) → noteAll m (some (eventOf mt i)) b P .inputs ≡ b P .inputs
+meeting-free mt i = all-keep (eventOf mt i) (λ P b. none-taken P mt i b)
+
+module _ (room n : ℕ) (is : List ℤ) (end : List ℕ) (t : Stand) (l : Lists) where
+  pub refuses : (r : ℕ) → Performs room n is end (Refuse r) t (Stopped r) l l
+  unfolding perform controlOf
+  refuses r = record { comes = λ G ei ee p q k b st. (b, refl, st .holds); table = refl; deep = tt }
+
+  pub empty-handed : (mt : Meeting) → Performs room n is end (Meets mt Empty) t (Stopped wrongValue) l l
+  unfolding perform controlOf
+  empty-handed mt = record { comes = λ G ei ee p q k b st. (b, refl, st .holds); table = refl; deep = tt }
+
+  pub reads : (y : Stepped) (l′ : Lists) → ReadsIn room n is end t y l l′ → Performs room n is end Reads t y l l′
+  unfolding perform controlOf
+  reads y l′ r = record { comes = r .comes; table = r .table; deep = r .deep }
+
+  pub goes : (mv : Move) (y : Stepped) (l′ : Lists) → l′ .at ≡ l .at → Moved room n mv t y (l .bytes) (l .lengths) (l .work) (l′ .bytes) (l′ .lengths) (l′ .work)
+      → Performs room n is end (Goes mv) t y l l′
+  unfolding perform controlOf settleAll
+  goes mv y l′ ea d =
+      record {
+        comes = λ G ei ee p q k b st.
+            subst (λ (z : Bool). Comes y G k (t .node) (cond z (arrive k (t .node) (move mv (controlOf t (l .work))) (noteAll (t .mode) none b)) (stopped k noRoom (t .node) b)) l′)
+            (sym (all-free (p .parties) (t .mode) room b))
+            (d .comes G k (noteAll (t .mode) none b) (l′ .at) (stands-none G (t .mode) b l (l′ .at) ea st));
+        table = d .table;
+        deep = d .deep;
+      }
+
+  -- an event other than a read is noted, and takes no input
+  pub settles : (ev : Event) (mv : Move) (y : Stepped) (l′ : Lists) → ((m : PartySet) (b : Books) (P : ℕ) → noteAll m (some ev) b P .inputs ≡ b P .inputs) → l′ .at ≡ l .at
+      → Settles room n ev mv t y (l .bytes) (l .lengths) (l .work) (l′ .bytes) (l′ .lengths) (l′ .work)
+      → (G : Given room n) (p : Program) → p .parties ≡ n → (k : ℕ) (b : Books) → Stands G b l
+      → Comes y G k (t .node) (settleAll (record { program = p; room = room }) k (controlOf t (l .work)) b (some ev) mv) l′
+  settles ev mv y l′ free ea s G p q k b st =
+      s .comes G p q k b (l .at) (l′ .at) st
+      (subst (λ (x : List ℕ). InputsHold maxParties (G .inputs) x (G .end) (noteAll (t .mode) (some ev) b)) (sym ea)
+      (inputs-same maxParties (G .inputs) (l .at) (G .end) b (noteAll (t .mode) (some ev) b) (st .inputs) (λ Q h. free (t .mode) b Q)))
+
+  pub writes : (i : ℤ) (y : Stepped) (l′ : Lists) → l′ .at ≡ l .at
+      → Settles room n (Wrote i) (Hand (Clear (pos 0) (t .mode))) t y (l .bytes) (l .lengths) (l .work) (l′ .bytes) (l′ .lengths) (l′ .work)
+      → Performs room n is end (Writes i) t y l l′
+  unfolding perform controlOf
+  writes i y l′ ea s =
+      record {
+        comes = λ G ei ee p q k b st. settles (Wrote i) (Hand (Clear (pos 0) (t .mode))) y l′ (λ m b P. write-free i m b P) ea s G p q k b st;
+        table = s .table;
+        deep = s .deep;
+      }
+
+  pub meets : (mt : Meeting) (i : ℤ) (h : PartySet) (y : Stepped) (l′ : Lists) → l′ .at ≡ l .at
+      → Settles room n (eventOf mt i) (Hand (handed mt i)) t y (l .bytes) (l .lengths) (l .work) (l′ .bytes) (l′ .lengths) (l′ .work)
+      → Performs room n is end (Meets mt (Secret i h)) t y l l′
+  unfolding perform controlOf
+  meets mt i h y l′ ea s =
+      record {
+        comes = λ G ei ee p q k b st. settles (eventOf mt i) (Hand (handed mt i)) y l′ (λ m b P. meeting-free mt i m b P) ea s G p q k b st;
+        table = s .table;
+        deep = s .deep;
+      }
+
+-- ---- a step is what the rule of the node asks for, done
+pub steps-on : (bs : List ℕ) (nodes room n : ℕ) (is : List ℤ) (end : List ℕ) (t : Stand) (y : Stepped) (l l′ : Lists) (effect : Effect)
+    → effect ≡ rule Whole (nodeBy bs nodes (l .work) (t .node)) (t .mode) (namesAt (l .work) (t .depth .frames)) → Performs room n is end effect t y l l′ → StepsOn bs nodes room n is end t y l l′
+unfolding step controlOf
+steps-on bs nodes room n is end t y l l′ effect e d =
+    record {
+      comes = λ G ei ee p g q len places k b st.
+          let here : nodeBy bs nodes (l .work) (t .node) ≡ nodeAt p (t .node)
+          = ap (λ (j : ℕ). nodeBy bs j (l .work) (t .node)) (sym len) ∙ node-by bs p (l .work) (t .node) g (subst (λ (j : ℕ). PlacesIn bs j (l .work)) (sym len) places) in
+          subst (λ (x : Effect). Comes y G k (t .node) (perform (record { program = p; room = room }) k (controlOf t (l .work)) b x) l′)
+          (e ∙ ap (λ (x : Node). rule Whole x (t .mode) (namesAt (l .work) (t .depth .frames))) here)
+          (d .comes G ei ee p q k b st);
+      table = d .table;
+      deep = d .deep;
+    }

@@ -1,0 +1,193 @@
+// One step of the single run.
+ghost use mathlib.Core.Path.{_≡_};
+ghost use Prim.Native.Nat.{_*_, _≤_};
+ghost use lib.ListN.{length};
+ghost use Rattle.limits.specs.Limits.{maxParties, maxFrames};
+ghost use Rattle.parties.specs.Sets.{count};
+ghost use Rattle.rules.specs.Books.{handed, eventOf};
+ghost use Rattle.rules.specs.Lent.{areaSize};
+ghost use Rattle.single_step.specs.Steps.{Arrives, Moved, Settles, ReadsIn, Performs, StepsOn};
+ghost use Rattle.rules.specs.RunLaws.{Sound};
+use area::stand::Next;
+use area::stand::Stand;
+use inputs::Taken;
+use records::events::Event;
+use rules::effects::Effect;
+use rules::effects::Meeting;
+use rules::effects::Move;
+use rules::effects::Offer;
+use rules::effects::View;
+use values::value::Value;
+
+pub enum Stepped {
+    On(Stand),
+    Ended,
+    // the refusal
+    Stopped(u8),
+}
+
+// Where a move has led: on, to the end, where every party writes kind 6, or to no place for a frame more.
+fn arrive(next: Next, n: u8, room: usize, bytes: &mut [u8], lengths: &mut [usize]) -> Stepped
+    requires { ⌜ (n ≤ maxParties) × (n * room ≤ length (now bytes)) × (n ≤ length (now lengths)) ⌝ }
+    ensures { λ y. ⌜ Arrives room n next y (now (bytes .entry)) (now (lengths .entry)) (now (bytes .exit)) (now (lengths .exit)) ⌝ }
+{
+    match next {
+        Next::On(t) => Stepped::On(t),
+        Next::Ends(v) => {
+            ledger::entries::finish_all(v, n, room, bytes, lengths);
+            Stepped::Ended
+        }
+        Next::Full => Stepped::Stopped(refusals::TOO_DEEP),
+    }
+}
+
+fn moved(
+    mv: Move,
+    t: Stand,
+    n: u8,
+    room: usize,
+    bytes: &mut [u8],
+    lengths: &mut [usize],
+    work: &mut [u8],
+) -> Stepped
+    requires { ⌜ (n ≤ maxParties) × (n * room ≤ length (now bytes)) × (n ≤ length (now lengths)) × (t .depth .frames ≤ maxFrames) × (areaSize ≤ length (now work)) ⌝ }
+    ensures { λ y. ⌜ Moved room n mv t y (now (bytes .entry)) (now (lengths .entry)) (now (work .entry)) (now (bytes .exit)) (now (lengths .exit)) (now (work .exit)) ⌝ }
+{
+    let next = area::levels::go(mv, t, work);
+    arrive(next, n, room, bytes, lengths)
+}
+
+// Each member of the mode notes the event and control moves; where a member lacks room, nobody notes it and the run stops.
+fn settled(
+    ev: Event,
+    mv: Move,
+    t: Stand,
+    n: u8,
+    room: usize,
+    bytes: &mut [u8],
+    lengths: &mut [usize],
+    work: &mut [u8],
+) -> Stepped
+    requires { ⌜ (n ≤ maxParties) × (n * room ≤ length (now bytes)) × (n ≤ length (now lengths)) × (t .depth .frames ≤ maxFrames) × (areaSize ≤ length (now work)) ⌝ }
+    ensures { λ y. ⌜ Settles room n ev mv t y (now (bytes .entry)) (now (lengths .entry)) (now (work .entry)) (now (bytes .exit)) (now (lengths .exit)) (now (work .exit)) ⌝ }
+{
+    let m = t.mode;
+    if ledger::entries::room_for_all(ev, m, n, room, lengths) {
+        ledger::entries::note_all(ev, m, n, room, bytes, lengths);
+        return moved(mv, t, n, room, bytes, lengths, work);
+    }
+    Stepped::Stopped(refusals::NO_ROOM)
+}
+
+// READ: the next input of the one party of the mode.
+fn read(
+    t: Stand,
+    n: u8,
+    room: usize,
+    inputs: &[i32],
+    at: &mut [usize],
+    end: &[usize],
+    bytes: &mut [u8],
+    lengths: &mut [usize],
+    work: &mut [u8],
+) -> Stepped
+    requires { ⌜ (n ≤ maxParties) × (n * room ≤ length (now bytes)) × (n ≤ length (now lengths)) × (t .depth .frames ≤ maxFrames) × (areaSize ≤ length (now work)) × (maxParties ≤ length (now at)) × (maxParties ≤ length (now end)) × (count (t .mode) ≡ 1) ⌝ }
+    ensures { λ y. ⌜ ReadsIn room n (now (inputs .entry)) (now (end .entry)) t y (record { bytes = now (bytes .entry); lengths = now (lengths .entry); work = now (work .entry); at = now (at .entry) }) (record { bytes = now (bytes .exit); lengths = now (lengths .exit); work = now (work .exit); at = now (at .exit) }) ⌝ }
+{
+    let m = t.mode;
+    let p = m.lowest() as usize;
+    let Taken::Input(i) = inputs::next_input(p, inputs, at, end) else {
+        return Stepped::Stopped(refusals::NO_INPUT);
+    };
+    at[p] = at[p] + 1;
+    settled(
+        Event::Read(i),
+        Move::Hand(Value::Clear(i, m)),
+        t,
+        n,
+        room,
+        bytes,
+        lengths,
+        work,
+    )
+}
+
+// SHARE and REVEAL: all of the mode meet about a number.
+fn met(
+    mt: Meeting,
+    i: i32,
+    t: Stand,
+    n: u8,
+    room: usize,
+    bytes: &mut [u8],
+    lengths: &mut [usize],
+    work: &mut [u8],
+) -> Stepped
+    requires { ⌜ (n ≤ maxParties) × (n * room ≤ length (now bytes)) × (n ≤ length (now lengths)) × (t .depth .frames ≤ maxFrames) × (areaSize ≤ length (now work)) ⌝ }
+    ensures { λ y. ⌜ Settles room n (eventOf mt i) (Move.Hand (handed mt i)) t y (now (bytes .entry)) (now (lengths .entry)) (now (work .entry)) (now (bytes .exit)) (now (lengths .exit)) (now (work .exit)) ⌝ }
+{
+    let ev = judge::meetings::event_of(mt, i);
+    let v = judge::meetings::handed(mt, i);
+    settled(ev, Move::Hand(v), t, n, room, bytes, lengths, work)
+}
+
+// What the node at which control stands asks for is done.
+fn performed(
+    effect: Effect,
+    t: Stand,
+    n: u8,
+    room: usize,
+    inputs: &[i32],
+    at: &mut [usize],
+    end: &[usize],
+    bytes: &mut [u8],
+    lengths: &mut [usize],
+    work: &mut [u8],
+) -> Stepped
+    requires { ⌜ (n ≤ maxParties) × (n * room ≤ length (now bytes)) × (n ≤ length (now lengths)) × (t .depth .frames ≤ maxFrames) × (areaSize ≤ length (now work)) × (maxParties ≤ length (now at)) × (maxParties ≤ length (now end)) × Sound (t .mode) effect ⌝ }
+    ensures { λ y. ⌜ Performs room n (now (inputs .entry)) (now (end .entry)) effect t y (record { bytes = now (bytes .entry); lengths = now (lengths .entry); work = now (work .entry); at = now (at .entry) }) (record { bytes = now (bytes .exit); lengths = now (lengths .exit); work = now (work .exit); at = now (at .exit) }) ⌝ }
+{
+    let m = t.mode;
+    match effect {
+        Effect::Refuse(refusal) => Stepped::Stopped(refusal),
+        Effect::Goes(mv) => moved(mv, t, n, room, bytes, lengths, work),
+        Effect::Reads => read(t, n, room, inputs, at, end, bytes, lengths, work),
+        Effect::Writes(i) => settled(
+            Event::Wrote(i),
+            Move::Hand(Value::Clear(0, m)),
+            t,
+            n,
+            room,
+            bytes,
+            lengths,
+            work,
+        ),
+        Effect::Meets(mt, offer) => match offer {
+            Offer::Empty => Stepped::Stopped(refusals::WRONG_VALUE),
+            Offer::Secret(i, _) => met(mt, i, t, n, room, bytes, lengths, work),
+        },
+    }
+}
+
+// One step: the node is read, its rule says what is asked for, and that is done.
+pub fn step(
+    program: &[u8],
+    nodes: usize,
+    t: Stand,
+    n: u8,
+    room: usize,
+    inputs: &[i32],
+    at: &mut [usize],
+    end: &[usize],
+    bytes: &mut [u8],
+    lengths: &mut [usize],
+    work: &mut [u8],
+) -> Stepped
+    requires { ⌜ (n ≤ maxParties) × (n * room ≤ length (now bytes)) × (n ≤ length (now lengths)) × (t .depth .frames ≤ maxFrames) × (areaSize ≤ length (now work)) × (maxParties ≤ length (now at)) × (maxParties ≤ length (now end)) ⌝ }
+    ensures { λ y. ⌜ StepsOn (now (program .entry)) nodes room n (now (inputs .entry)) (now (end .entry)) t y (record { bytes = now (bytes .entry); lengths = now (lengths .entry); work = now (work .entry); at = now (at .entry) }) (record { bytes = now (bytes .exit); lengths = now (lengths .exit); work = now (work .exit); at = now (at .exit) }) ⌝ }
+{
+    let k = t.node;
+    let node = table::node(program, nodes, work, k);
+    let effect = lookup::effect(View::Whole, node, t, work);
+    performed(effect, t, n, room, inputs, at, end, bytes, lengths, work)
+}

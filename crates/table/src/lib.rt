@@ -1,0 +1,28 @@
+// The table of places at the head of an area, and the node that it leads to.
+ghost use mathlib.Core.Path.{_≡_};
+ghost use Prim.Native.Nat.{_≤_};
+ghost use lib.ListN.{length};
+ghost use Rattle.rules.specs.Lent.{areaSize};
+ghost use Rattle.table.specs.Table.{nodeBy, Prepared};
+use nodes::Node;
+
+// An area at the start of a run: the places of the nodes, and no name bound.
+pub fn prepare(program: &[u8], nodes: usize, w: &mut [u8])
+    requires { ⌜ (nodes ≤ 1024) × (areaSize ≤ length (now w)) ⌝ }
+    ensures { λ _. ⌜ Prepared (now (program .entry)) nodes (now (w .exit)) ⌝ }
+{
+    stretches::zero(w);
+    places::index(program, nodes, &mut w[..2048]);
+}
+
+// The node numbered k; past the last one READ, so that nobody has to show that there is one.
+pub fn node(program: &[u8], nodes: usize, w: &[u8], k: u16) -> Node
+    ensures { λ r. ⌜ r ≡ nodeBy (now (program .entry)) nodes (now (w .entry)) k ⌝ }
+{
+    let own = k as usize;
+    if own < nodes {
+        nodes::node_at(program, places::place_of(w, own))
+    } else {
+        Node::READ
+    }
+}

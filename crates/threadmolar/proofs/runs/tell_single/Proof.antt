@@ -1,0 +1,60 @@
+-- `threadmolar::runs::tell_single` meets its contract. Assumes nothing.
+use mathlib.Core.Path.{refl}
+use native.Mathlib.Omega.{arith}
+use borrow.Author.Needs.{needs}
+use Rattle.threadmolar.specs.Runs.{singleNumber, stepsLeft}
+use Rattle.threadmolar.proofs.runs.tell_single.Statement.{statement}
+use Rattle.threadmolar.proofs.runs.tell_single.Tie as tie
+
+enum-known-answer : tie.Need-enum-known-answer
+enum-known-answer c = search needs
+
+cast-numbered : tie.Need-cast-numbered
+cast-numbered c = let h = rw (c .before .answer .given .1) at (c .before .before .before .pre) in omega arith
+
+numbered-requires : tie.Need-numbered-requires
+numbered-requires c κs = search needs
+
+enum-known-answer-2 : tie.Need-enum-known-answer-2
+enum-known-answer-2 c = search needs
+
+numbered-requires-2 : tie.Need-numbered-requires-2
+numbered-requires-2 c κs = search needs
+
+enum-known-answer-3 : tie.Need-enum-known-answer-3
+enum-known-answer-3 c = search needs
+
+enum-known-answer-4 : tie.Need-enum-known-answer-4
+enum-known-answer-4 c = search needs
+
+returns : tie.Need-returns
+unfolding singleNumber stepsLeft
+returns c = rw (c .before .before .answer .given .1) (record { number = c .numbered .ensures; steps = refl })
+
+returns-2 : tie.Need-returns-2
+unfolding singleNumber stepsLeft
+returns-2 c = rw (c .before .before .answer2 .given .1) (record { number = c .numbered2 .ensures; steps = refl })
+
+returns-3 : tie.Need-returns-3
+unfolding singleNumber stepsLeft
+returns-3 c = rw (c .before .answer3 .given .1) (record { number = refl; steps = refl })
+
+returns-4 : tie.Need-returns-4
+unfolding singleNumber stepsLeft
+returns-4 c = rw (c .before .answer4 .given .1) (record { number = refl; steps = refl })
+
+pub tell-single-spec : {M : Type 1} → statement M
+tell-single-spec =
+    tie.close
+    (tie.spec
+    enum-known-answer
+    cast-numbered
+    numbered-requires
+    enum-known-answer-2
+    numbered-requires-2
+    enum-known-answer-3
+    enum-known-answer-4
+    returns
+    returns-2
+    returns-3
+    returns-4)

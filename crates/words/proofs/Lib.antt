@@ -1,0 +1,2 @@
+pub mod TwosComplement
+pub mod WordLaws
