@@ -50,6 +50,11 @@ use Rattle.seats.specs.declared.Seat.{Seat}
 use Rattle.seats.specs.declared.Seat.the-variants.{Running, Finished, Stopped}
 use Rattle.acts.specs.Acts as Acts
 use Rattle.acts.specs.Acts.{Takes, Lands, Settles}
+use Rattle.acts.specs.declared.Stepped.the-variants.{Landed, Asks}
+use Rattle.advance.specs.Advances.{Asked, Advances}
+use Rattle.advance.specs.declared.Advanced.{Advanced}
+use Rattle.advance.specs.declared.Advanced.the-variants as Advanced′
+use Rattle.rules.specs.declared.effects.View.the-variants as View′
 use Rattle.site.specs.Own.{acted}
 
 -- ---- the last event
@@ -113,6 +118,26 @@ pub moves : (mv : Move) (t : Stand) (u : ℕ) (xs w w1 : List ℕ) (next : Next)
 moves mv t u xs w w1 next u′ xs′ w′ g l =
     let s : Takes (land (t .node) (nextOf next w1)) u xs w1 u′ xs′ w′ = l .lands (g .deep) in
     rw (← g .gives) (record { took = s .took; table = s .table ∙ g .table })
+
+-- ---- a step
+module _ (bs : List ℕ) (nodes : ℕ) (t : Stand) (P : Party) (u : ℕ) (xs w : List ℕ) (y : Advanced) (w1 : List ℕ) (advances : Advances (View′.Site P) bs nodes t y w w1) where
+  pub step-lands : (next : Next) (u′ : ℕ) (xs′ w′ : List ℕ) → y ≡ Advanced′.Moved next → Lands next (t .node) u xs w1 u′ xs′ w′ → Acts.Steps bs nodes t P u xs w (Landed u′) xs′ w′
+  step-lands next u′ xs′ w′ q l =
+      let m = advances .moved next q in
+      record {
+        landed = λ v e.
+            let same : u′ ≡ v = cc in
+            (m .0, m .1, subst (λ (x : ℕ). Takes (land (t .node) (move (m .0) (controlOf t w))) u xs w x xs′ w′) same (moves (m .0) t u xs w w1 next u′ xs′ w′ (m .2) l));
+        asks = λ f e. absurd (let z : _≡_ {A = ℕ} 0 1 = cc in omega arith);
+      }
+
+  pub step-asks : (effect : Effect) → y ≡ Advanced′.Asks effect → Acts.Steps bs nodes t P u xs w (Asks effect) xs w1
+  step-asks effect q =
+      let a = advances .asks effect q in
+      record {
+        landed = λ v e. absurd (let z : _≡_ {A = ℕ} 0 1 = cc in omega arith);
+        asks = λ f e. let same : effect ≡ f = cc in (sym same ∙ a .0, subst Asked same (a .1), refl, a .2);
+      }
 
 -- ---- an event noted, and a move
 -- what an event and an act after it leave

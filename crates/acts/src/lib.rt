@@ -9,7 +9,9 @@ ghost use Rattle.rules.specs.Moves.{move};
 ghost use Rattle.rules.specs.Joint.{finish, stop, land};
 ghost use Rattle.rules.specs.Lent.{areaSize};
 ghost use Rattle.area.specs.Levels.{controlOf};
-ghost use Rattle.acts.specs.Acts.{Takes, Lands, Settles, Acts};
+ghost use Rattle.advance.specs.Advances.{Asked};
+ghost use Rattle.acts.specs.Acts.{Takes, Lands, Steps, Settles, Acts};
+use advance::Advanced;
 use area::stand::Next;
 use area::stand::Stand;
 use inputs::Taken;
@@ -19,6 +21,7 @@ use records::events::Event;
 use rules::effects::Effect;
 use rules::effects::Meeting;
 use rules::effects::Move;
+use rules::effects::View;
 use seats::Seat;
 use values::value::Value;
 
@@ -53,19 +56,47 @@ fn land(next: Next, node: u16, used: usize, bytes: &mut [u8], area: &mut [u8]) -
     }
 }
 
-fn moved(mv: Move, t: Stand, used: usize, bytes: &mut [u8], area: &mut [u8]) -> usize
+// What a site's step came to.
+pub enum Stepped {
+    // how many bytes of the record are then used
+    Landed(usize),
+    // what its rule asks for besides a move
+    Asks(Effect),
+}
+
+// Site p, which stands at t, moves by the rule of its node, or is told what the rule asks for besides.
+pub fn step(
+    program: &[u8],
+    nodes: usize,
+    t: Stand,
+    p: Party,
+    used: usize,
+    bytes: &mut [u8],
+    area: &mut [u8],
+) -> Stepped
     requires { ⌜ (t .depth .frames ≤ maxFrames) × (areaSize ≤ length (now area)) ⌝ }
-    ensures { λ u. ⌜ Takes (land (t .node) (move mv (controlOf t (now (area .entry))))) used (now (bytes .entry)) (now (area .entry)) u (now (bytes .exit)) (now (area .exit)) ⌝ }
+    ensures { λ r. ⌜ Steps (now (program .entry)) nodes t p used (now (bytes .entry)) (now (area .entry)) r (now (bytes .exit)) (now (area .exit)) ⌝ }
 {
     let node = t.node;
-    let next = area::levels::go(mv, t, area);
+    match advance::advance(View::Site(p), program, nodes, t, area) {
+        Advanced::Moved(next) => Stepped::Landed(land(next, node, used, bytes, area)),
+        Advanced::Asks(effect) => Stepped::Asks(effect),
+    }
+}
+
+fn hand_back(v: Value, t: Stand, used: usize, bytes: &mut [u8], area: &mut [u8]) -> usize
+    requires { ⌜ (t .depth .frames ≤ maxFrames) × (areaSize ≤ length (now area)) ⌝ }
+    ensures { λ u. ⌜ Takes (land (t .node) (move (Move.Hand v) (controlOf t (now (area .entry))))) used (now (bytes .entry)) (now (area .entry)) u (now (bytes .exit)) (now (area .exit)) ⌝ }
+{
+    let node = t.node;
+    let next = area::levels::hand_back(v, t.depth, area);
     land(next, node, used, bytes, area)
 }
 
-// The site notes its part of the event and control moves; without room for it the site stops.
+// The site notes its part of the event and is handed a value back; without room for it the site stops.
 fn settle(
     ev: Event,
-    mv: Move,
+    v: Value,
     t: Stand,
     p: Party,
     used: usize,
@@ -73,13 +104,13 @@ fn settle(
     area: &mut [u8],
 ) -> usize
     requires { ⌜ (t .depth .frames ≤ maxFrames) × (areaSize ≤ length (now area)) ⌝ }
-    ensures { λ u. ⌜ Settles ev mv t p used (now (bytes .entry)) (now (area .entry)) u (now (bytes .exit)) (now (area .exit)) ⌝ }
+    ensures { λ u. ⌜ Settles ev (Move.Hand v) t p used (now (bytes .entry)) (now (area .entry)) u (now (bytes .exit)) (now (area .exit)) ⌝ }
 {
     let node = t.node;
     let Appended::To(next) = ledger::entries::event_for(p, ev).append(bytes, used) else {
         return stop(refusals::NO_ROOM, node, used, bytes, area);
     };
-    moved(mv, t, next, bytes, area)
+    hand_back(v, t, next, bytes, area)
 }
 
 // The site's part in a meeting about the number i: it notes what happened and is handed its slice.
@@ -97,10 +128,10 @@ pub fn join(
 {
     let ev = judge::meetings::event_of(mt, i);
     let own = judge::meetings::handed(mt, i).slice(p);
-    settle(ev, Move::Hand(own), t, p, used, bytes, area)
+    settle(ev, own, t, p, used, bytes, area)
 }
 
-// The effect of the site's own rule, done; `input` is its next input. A meeting is nothing that a site does by itself.
+// The effect of the site's own rule, done; `input` is its next input. A meeting is nothing that a site does by itself, and of a move nothing is left to do.
 pub fn act(
     effect: Effect,
     t: Stand,
@@ -110,37 +141,21 @@ pub fn act(
     bytes: &mut [u8],
     area: &mut [u8],
 ) -> usize
-    requires { ⌜ (t .depth .frames ≤ maxFrames) × (areaSize ≤ length (now area)) ⌝ }
+    requires { ⌜ (t .depth .frames ≤ maxFrames) × (areaSize ≤ length (now area)) × Asked effect ⌝ }
     ensures { λ u. ⌜ Acts effect input t p used (now (bytes .entry)) (now (area .entry)) u (now (bytes .exit)) (now (area .exit)) ⌝ }
 {
     let m = t.mode;
     let node = t.node;
     match effect {
         Effect::Refuse(refusal) => stop(refusal, node, used, bytes, area),
-        Effect::Goes(mv) => moved(mv, t, used, bytes, area),
+        Effect::Goes(_) => used,
         Effect::Reads => {
             let Taken::Input(i) = input else {
                 return stop(refusals::NO_INPUT, node, used, bytes, area);
             };
-            settle(
-                Event::Read(i),
-                Move::Hand(Value::Clear(i, m)),
-                t,
-                p,
-                used,
-                bytes,
-                area,
-            )
+            settle(Event::Read(i), Value::Clear(i, m), t, p, used, bytes, area)
         }
-        Effect::Writes(i) => settle(
-            Event::Wrote(i),
-            Move::Hand(Value::Clear(0, m)),
-            t,
-            p,
-            used,
-            bytes,
-            area,
-        ),
+        Effect::Writes(i) => settle(Event::Wrote(i), Value::Clear(0, m), t, p, used, bytes, area),
         Effect::Meets(_, _) => used,
     }
 }

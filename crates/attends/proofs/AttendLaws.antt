@@ -15,16 +15,15 @@ use Rattle.rules.specs.Joint.{away, attendance, agrees}
 use Rattle.rules.specs.declared.effects.Meeting.{Meeting}
 use Rattle.rules.specs.declared.effects.Offer.{Offer}
 use Rattle.rules.specs.declared.effects.Offer.the-variants.{Empty, Secret}
-use Rattle.rules.specs.declared.effects.Effect.{Effect}
 use Rattle.area.specs.Levels.{controlOf}
 use Rattle.seats.specs.Seats.{seatAt, seated, siteOf}
 use Rattle.area.specs.declared.stand.Stand.{Stand}
 use Rattle.seats.specs.declared.Seat.{Seat}
 use Rattle.seats.specs.declared.Seat.the-variants.{Running, Finished, Stopped}
-use Rattle.site.specs.Own.{Owns}
+use Rattle.site.specs.Own.{Invites}
 use Rattle.attends.specs.Attends.{told, AttendsFrom, IsAt}
-use Rattle.site.specs.declared.own.Own.{Own}
-use Rattle.site.specs.declared.own.Own.the-variants.{Acts, Attends}
+use Rattle.site.specs.declared.own.Invitation.{Invitation}
+use Rattle.site.specs.declared.own.Invitation.the-variants.{Not, To}
 use Rattle.attends.specs.declared.Attendance.{Attendance}
 use Rattle.attends.specs.declared.Attendance.the-variants.{Away, There}
 
@@ -39,16 +38,18 @@ module _ (bs : List ℕ) (nodes : ℕ) (t : Stand) (e : ℕ) (m : PartySet) (P :
     unfolding attendance controlOf
     at-mode h = record { comes = λ p g len places b o. rw (eq-eqb (t .node) e same, h) }
 
-    module _ (mode : sameSet (t .mode) m ≡ true) (r : Own) (owns : Owns bs nodes P t room u r w) where
-      pub at-acts : (effect : Effect) → r ≡ Acts effect → AttendsFrom bs nodes t e m P room u Away w
+    module _ (mode : sameSet (t .mode) m ≡ true) (r : Invitation) (invites : Invites bs nodes P t room u r w) where
+      pub at-not : r ≡ Not → AttendsFrom bs nodes t e m P room u Away w
       unfolding attendance controlOf
-      at-acts effect q =
-          record { comes = λ p g len places b o. rw (eq-eqb (t .node) e same, mode, owns .comes p g len places b o, q) }
+      at-not q =
+          let no : Invites bs nodes P t room u Not w = rw q at invites in
+          record { comes = λ p g len places b o. rw (eq-eqb (t .node) e same, mode, no .comes p g len places b o .1) }
 
-      pub at-there : (mt : Meeting) (o : Offer) → r ≡ Attends mt o → AttendsFrom bs nodes t e m P room u (There o) w
+      pub at-there : (mt : Meeting) (o : Offer) → r ≡ To mt o → AttendsFrom bs nodes t e m P room u (There o) w
       unfolding attendance controlOf
       at-there mt o q =
-          record { comes = λ p g len places b u. rw (eq-eqb (t .node) e same, mode, owns .comes p g len places b u, q) }
+          let to : Invites bs nodes P t room u (To mt o) w = rw q at invites in
+          record { comes = λ p g len places b u. rw (eq-eqb (t .node) e same, mode, to .comes p g len places b u) }
 
 -- ---- any site
 module _ (bs : List ℕ) (nodes e : ℕ) (m : PartySet) (P : Party) (room u : ℕ) (w : List ℕ) (seat : Seat) (sits : seat ≡ seatAt w) where

@@ -11,7 +11,7 @@ use limits::Party;
 use parties::sets::PartySet;
 use rules::effects::Offer;
 use seats::Seat;
-use site::own::Own;
+use site::own::Invitation;
 
 pub enum Attendance {
     Away,
@@ -41,7 +41,7 @@ fn attends_from(
     if !mode.is(m) {
         return Attendance::Away;
     }
-    let Own::Attends(_, offer) = site::own::asked(program, nodes, p, t, room, used, area) else {
+    let Invitation::To(_, offer) = site::own::invited(program, nodes, p, t, room, used, area) else {
         return Attendance::Away;
     };
     Attendance::There(offer)

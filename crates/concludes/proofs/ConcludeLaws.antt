@@ -34,10 +34,10 @@ use Rattle.seats.specs.Seats.{seatAt, seated, siteOf}
 use Rattle.area.specs.declared.stand.Stand.{Stand}
 use Rattle.seats.specs.declared.Seat.{Seat}
 use Rattle.seats.specs.declared.Seat.the-variants.{Running, Finished, Stopped}
-use Rattle.site.specs.Own.{Owns}
+use Rattle.site.specs.Own.{Invites}
 use Rattle.acts.specs.Acts.{Took, Takes, Settles}
-use Rattle.site.specs.declared.own.Own.{Own}
-use Rattle.site.specs.declared.own.Own.the-variants.{Acts, Attends}
+use Rattle.site.specs.declared.own.Invitation.{Invitation}
+use Rattle.site.specs.declared.own.Invitation.the-variants.{Not, To}
 use Rattle.meets.specs.Places.{row, areaOf, settingOf, Given, Stands}
 use Rattle.concludes.specs.Concludes.{concluding, TakesPart, ConcludesOne, ConcludesAll}
 use Rattle.concludes.specs.declared.Outcome.{Outcome}
@@ -51,15 +51,16 @@ module _ (bs : List ℕ) (nodes : ℕ) (outcome : Outcome) (t : Stand) (P : Part
   unfolding parts controlOf
   parts-with u′ xs′ w′ q s = rw q (record { part = λ p g len places seat b o h. s .took b o h; table = s .table })
 
-  module _ (i : ℤ) (joins′ : outcome ≡ Joins i) (r : Own) (owns : Owns bs nodes P t (length xs) u r w) where
+  module _ (i : ℤ) (joins′ : outcome ≡ Joins i) (r : Invitation) (invites : Invites bs nodes P t (length xs) u r w) where
     -- it is not at the meeting
-    pub joins-not : (effect : Effect) → r ≡ Acts effect → TakesPart bs nodes outcome t P u xs w u xs w
+    pub joins-not : r ≡ Not → TakesPart bs nodes outcome t P u xs w u xs w
     unfolding joins joinsBy siteOf
-    joins-not effect q =
+    joins-not q =
+        let no : Invites bs nodes P t (length xs) u Not w = rw q at invites in
         rw joins′
         record {
           part = λ p g len places seat b o h.
-              rw (owns .comes p g len places b o, q)
+              rw (no .comes p g len places b o .1)
               record {
                 more = [];
                 bytes = refl;
@@ -71,13 +72,14 @@ module _ (bs : List ℕ) (nodes : ℕ) (outcome : Outcome) (t : Stand) (P : Part
           table = refl;
         }
 
-    pub joins-in : (mt : Meeting) (o : Offer) (u′ : ℕ) (xs′ w′ : List ℕ) → r ≡ Attends mt o → Settles (eventOf mt i) (Hand (slice (P .index) (handed mt i))) t P u xs w u′ xs′ w′
+    pub joins-in : (mt : Meeting) (o : Offer) (u′ : ℕ) (xs′ w′ : List ℕ) → r ≡ To mt o → Settles (eventOf mt i) (Hand (slice (P .index) (handed mt i))) t P u xs w u′ xs′ w′
         → TakesPart bs nodes outcome t P u xs w u′ xs′ w′
     unfolding joins joinsBy
     joins-in mt o u′ xs′ w′ q s =
+        let to : Invites bs nodes P t (length xs) u (To mt o) w = rw q at invites in
         rw joins′
         record {
-          part = λ p g len places seat b e h. rw (owns .comes p g len places b e, q) (s .settles (settingOf p (length xs)) refl .took b e h);
+          part = λ p g len places seat b e h. rw (to .comes p g len places b e) (s .settles (settingOf p (length xs)) refl .took b e h);
           table = s .table;
         }
 

@@ -4,7 +4,7 @@ use mathlib.Core.List.{List, _++_}
 use Prim.Native.Nat.{ℕ, _+_, _-_, _*_, _≤_, _<_}
 use native.Mathlib.Decide.{decLt}
 use native.Mathlib.Omega.{arith}
-use lib.ListN.{length, take, drop, length-drop}
+use lib.ListN.{length, take, drop, length-drop, take-append-drop}
 use lib.Seq.{sets, length-sets, length-take-le}
 use Rattle.invariants.proofs.RowLaws.{rows, stored, part-before, part-after}
 use Rattle.area.proofs.MoveLaws.{part-back}
@@ -18,6 +18,10 @@ pub row-length : (size P : ℕ) (xs : List ℕ) → P * size + size ≤ length x
 row-length size P xs h =
     let q : P * size + size - P * size ≡ size = omega arith in
     length-take-le (P * size + size - P * size) (drop (P * size) xs) (rw length-drop (omega arith)) ∙ q
+
+-- a row that came back as it was
+pub back-same : (size P : ℕ) (xs : List ℕ) → back size P xs (row size P xs) ≡ xs
+back-same size P xs = rw (take-append-drop (P * size + size - P * size) (drop (P * size) xs), take-append-drop (P * size) xs)
 
 module _ (size P : ℕ) (xs ys : List ℕ) (len : length ys ≡ size) (long : P * size + size ≤ length xs) where
   back-sets : back size P xs ys ≡ sets xs (P * size) ys

@@ -9,7 +9,7 @@ use area::stand::Stand;
 use limits::Party;
 use parties::sets::PartySet;
 use seats::Seat;
-use site::own::Own;
+use site::own::Invitation;
 
 pub enum Outcome {
     // the number that the meeting was about
@@ -36,7 +36,8 @@ fn take_part(
     let Outcome::Joins(number) = outcome else {
         return acts::stop(refusals::DISAGREEMENT, node, used, bytes, area);
     };
-    let Own::Attends(mt, _) = site::own::asked(program, nodes, p, t, bytes.len(), used, area) else {
+    let Invitation::To(mt, _) = site::own::invited(program, nodes, p, t, bytes.len(), used, area)
+    else {
         return used;
     };
     acts::join(mt, number, t, p, used, bytes, area)

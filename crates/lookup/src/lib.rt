@@ -27,7 +27,7 @@ pub enum Sought {
 }
 
 // The binding of a name in the level that has so many frames below it, restricted to m.
-fn seek(w: &[u8], depth: Depth, m: PartySet, x: Name) -> Sought
+pub fn seek(w: &[u8], depth: Depth, m: PartySet, x: Name) -> Sought
     requires { ⌜ (depth .frames ≤ maxFrames) × (areaSize ≤ length (now w)) ⌝ }
     ensures { λ r. ⌜ r ≡ soughtOf x (look m (namesAt (now (w .entry)) (depth .frames)) x) ⌝ }
 {

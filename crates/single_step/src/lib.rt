@@ -8,6 +8,8 @@ ghost use Rattle.rules.specs.Books.{handed, eventOf};
 ghost use Rattle.rules.specs.Lent.{areaSize};
 ghost use Rattle.single_step.specs.Steps.{Arrives, Moved, Settles, ReadsIn, Performs, StepsOn};
 ghost use Rattle.rules.specs.RunLaws.{Sound};
+ghost use Rattle.advance.specs.Advances.{Asked};
+use advance::Advanced;
 use area::stand::Next;
 use area::stand::Stand;
 use inputs::Taken;
@@ -41,8 +43,9 @@ fn arrive(next: Next, n: u8, room: usize, bytes: &mut [u8], lengths: &mut [usize
     }
 }
 
-fn moved(
-    mv: Move,
+// A value is handed back, and control arrives.
+fn hand_back(
+    v: Value,
     t: Stand,
     n: u8,
     room: usize,
@@ -51,16 +54,16 @@ fn moved(
     work: &mut [u8],
 ) -> Stepped
     requires { ⌜ (n ≤ maxParties) × (n * room ≤ length (now bytes)) × (n ≤ length (now lengths)) × (t .depth .frames ≤ maxFrames) × (areaSize ≤ length (now work)) ⌝ }
-    ensures { λ y. ⌜ Moved room n mv t y (now (bytes .entry)) (now (lengths .entry)) (now (work .entry)) (now (bytes .exit)) (now (lengths .exit)) (now (work .exit)) ⌝ }
+    ensures { λ y. ⌜ Moved room n (Move.Hand v) t y (now (bytes .entry)) (now (lengths .entry)) (now (work .entry)) (now (bytes .exit)) (now (lengths .exit)) (now (work .exit)) ⌝ }
 {
-    let next = area::levels::go(mv, t, work);
+    let next = area::levels::hand_back(v, t.depth, work);
     arrive(next, n, room, bytes, lengths)
 }
 
-// Each member of the mode notes the event and control moves; where a member lacks room, nobody notes it and the run stops.
+// Each member of the mode notes the event and a value is handed back; where a member lacks room, nobody notes it and the run stops.
 fn settled(
     ev: Event,
-    mv: Move,
+    v: Value,
     t: Stand,
     n: u8,
     room: usize,
@@ -69,12 +72,12 @@ fn settled(
     work: &mut [u8],
 ) -> Stepped
     requires { ⌜ (n ≤ maxParties) × (n * room ≤ length (now bytes)) × (n ≤ length (now lengths)) × (t .depth .frames ≤ maxFrames) × (areaSize ≤ length (now work)) ⌝ }
-    ensures { λ y. ⌜ Settles room n ev mv t y (now (bytes .entry)) (now (lengths .entry)) (now (work .entry)) (now (bytes .exit)) (now (lengths .exit)) (now (work .exit)) ⌝ }
+    ensures { λ y. ⌜ Settles room n ev (Move.Hand v) t y (now (bytes .entry)) (now (lengths .entry)) (now (work .entry)) (now (bytes .exit)) (now (lengths .exit)) (now (work .exit)) ⌝ }
 {
     let m = t.mode;
     if ledger::entries::room_for_all(ev, m, n, room, lengths) {
         ledger::entries::note_all(ev, m, n, room, bytes, lengths);
-        return moved(mv, t, n, room, bytes, lengths, work);
+        return hand_back(v, t, n, room, bytes, lengths, work);
     }
     Stepped::Stopped(refusals::NO_ROOM)
 }
@@ -102,7 +105,7 @@ fn read(
     at[p] = at[p] + 1;
     settled(
         Event::Read(i),
-        Move::Hand(Value::Clear(i, m)),
+        Value::Clear(i, m),
         t,
         n,
         room,
@@ -128,10 +131,10 @@ fn met(
 {
     let ev = judge::meetings::event_of(mt, i);
     let v = judge::meetings::handed(mt, i);
-    settled(ev, Move::Hand(v), t, n, room, bytes, lengths, work)
+    settled(ev, v, t, n, room, bytes, lengths, work)
 }
 
-// What the node at which control stands asks for is done.
+// What the node at which control stands asks for besides a move is done; of a move nothing is left to do.
 fn performed(
     effect: Effect,
     t: Stand,
@@ -144,17 +147,17 @@ fn performed(
     lengths: &mut [usize],
     work: &mut [u8],
 ) -> Stepped
-    requires { ⌜ (n ≤ maxParties) × (n * room ≤ length (now bytes)) × (n ≤ length (now lengths)) × (t .depth .frames ≤ maxFrames) × (areaSize ≤ length (now work)) × (maxParties ≤ length (now at)) × (maxParties ≤ length (now end)) × Sound (t .mode) effect ⌝ }
+    requires { ⌜ (n ≤ maxParties) × (n * room ≤ length (now bytes)) × (n ≤ length (now lengths)) × (t .depth .frames ≤ maxFrames) × (areaSize ≤ length (now work)) × (maxParties ≤ length (now at)) × (maxParties ≤ length (now end)) × Sound (t .mode) effect × Asked effect ⌝ }
     ensures { λ y. ⌜ Performs room n (now (inputs .entry)) (now (end .entry)) effect t y (record { bytes = now (bytes .entry); lengths = now (lengths .entry); work = now (work .entry); at = now (at .entry) }) (record { bytes = now (bytes .exit); lengths = now (lengths .exit); work = now (work .exit); at = now (at .exit) }) ⌝ }
 {
     let m = t.mode;
     match effect {
         Effect::Refuse(refusal) => Stepped::Stopped(refusal),
-        Effect::Goes(mv) => moved(mv, t, n, room, bytes, lengths, work),
+        Effect::Goes(_) => Stepped::Ended,
         Effect::Reads => read(t, n, room, inputs, at, end, bytes, lengths, work),
         Effect::Writes(i) => settled(
             Event::Wrote(i),
-            Move::Hand(Value::Clear(0, m)),
+            Value::Clear(0, m),
             t,
             n,
             room,
@@ -169,7 +172,7 @@ fn performed(
     }
 }
 
-// One step: the node is read, its rule says what is asked for, and that is done.
+// One step: control moves by the rule of its node, or what the rule asks for besides is done.
 pub fn step(
     program: &[u8],
     nodes: usize,
@@ -186,8 +189,19 @@ pub fn step(
     requires { ⌜ (n ≤ maxParties) × (n * room ≤ length (now bytes)) × (n ≤ length (now lengths)) × (t .depth .frames ≤ maxFrames) × (areaSize ≤ length (now work)) × (maxParties ≤ length (now at)) × (maxParties ≤ length (now end)) ⌝ }
     ensures { λ y. ⌜ StepsOn (now (program .entry)) nodes room n (now (inputs .entry)) (now (end .entry)) t y (record { bytes = now (bytes .entry); lengths = now (lengths .entry); work = now (work .entry); at = now (at .entry) }) (record { bytes = now (bytes .exit); lengths = now (lengths .exit); work = now (work .exit); at = now (at .exit) }) ⌝ }
 {
-    let k = t.node;
-    let node = table::node(program, nodes, work, k);
-    let effect = lookup::effect(View::Whole, node, t, work);
-    performed(effect, t, n, room, inputs, at, end, bytes, lengths, work)
+    match advance::advance(View::Whole, program, nodes, t, work) {
+        Advanced::Moved(next) => arrive(next, n, room, bytes, lengths),
+        Advanced::Asks(effect) => performed(
+            effect,
+            t,
+            n,
+            room,
+            inputs,
+            at,
+            end,
+            bytes,
+            lengths,
+            work,
+        ),
+    }
 }

@@ -8,7 +8,7 @@ use native.Mathlib.Decide.{decLt}
 use native.Mathlib.Omega.{arith}
 use borrow.Author.Tests.{eq-eqb, ne-eqb}
 use denote.Enum.{Declared.tagOf}
-use types.Run.{OneOf, miss}
+use types.Run.{OneOf, hit, miss}
 use lib.IntN.{ℤ}
 use lib.ListN.{length, getD, set, take, drop, drop-of-length-le}
 use lib.Seq.{take-nil, set-getD}
@@ -37,6 +37,10 @@ use Rattle.seats.specs.declared.Seat.{Seat}
 use Rattle.seats.specs.declared.Seat.the-variants.{Running, Finished, Stopped}
 use Rattle.acts.specs.Acts as Site
 use Rattle.acts.specs.Acts.{Took}
+use Rattle.acts.specs.declared.Stepped.{Stepped}
+use Rattle.acts.specs.declared.Stepped.the-variants.{Landed, Asks}
+use Rattle.acts.proofs.ActLaws.{acts-goes}
+use Rattle.site.proofs.OwnLaws.{owned, weighs-acts}
 use Rattle.site.specs.Own as Owned
 use Rattle.site.specs.Own.{acted, Alone, Owns}
 use Rattle.site.specs.declared.own.Own as OwnOf
@@ -44,12 +48,12 @@ use Rattle.site.specs.declared.own.Own.the-variants.{Acts, Attends}
 use Rattle.meets.specs.Places.{row, areaOf, settingOf, Given, Stands, InputsOf}
 use Rattle.meets.specs.Meets.{gathered, Sitting, Gathers, Agreed}
 use Rattle.concludes.specs.Concludes.{ConcludesAll}
-use Rattle.sites.specs.Turns.{Meets, takenBy, ActsAlone, Turns}
+use Rattle.sites.specs.Turns.{Meets, takenBy, ActsAlone, TurnsAsked, Turns}
 use Rattle.meets.specs.declared.present.Gathered.{Gathered}
 use Rattle.meets.specs.declared.present.Gathered.the-variants.{Missing, All}
 use Rattle.concludes.specs.declared.Outcome.{Outcome}
 use Rattle.concludes.specs.declared.Outcome.the-variants.{Joins, Parts}
-use Rattle.concludes.proofs.RowLaws.{back, row-length}
+use Rattle.concludes.proofs.RowLaws.{back, back-same, row-length}
 use Rattle.concludes.proofs.StandLaws.{NotRunning, stands-length, stands-sits, stands-long, stands-changed}
 use Rattle.sites.proofs.InputLaws.{acted-stand, meeting-inputs}
 
@@ -247,3 +251,29 @@ module _ (bs : List ℕ) (nodes P n room : ℕ) (is : List ℤ) (end at bytes le
               let z = k .comes bs nodes n G J (bookOf (J P)) inside st ins (subst Alone q (owns .alone)) (stands-at G J inside st) in
               rw e (z .0, z .1, refl);
         }
+
+-- a turn by which control just moves
+pub turn-landed : (bs : List ℕ) (nodes P n room : ℕ) (is : List ℤ) (end at bytes lengths work : List ℕ) (seat : Seat) → seat ≡ seatAt (areaOf P work) → (t : Stand) → seat ≡ Running t
+    → (u′ : ℕ) (ys ws : List ℕ) (r : Stepped) → Site.Steps bs nodes t (record { index = P }) (getD lengths P 0) (row room P bytes) (areaOf P work) r ys ws → r ≡ Landed u′ → P < length at
+    → P * areaSize + areaSize ≤ length work → length ws ≡ areaSize → Turns bs nodes P n room is end true at bytes lengths work at (back room P bytes ys) (set lengths P u′) (back areaSize P work ws)
+turn-landed bs nodes P n room is end at bytes lengths work seat sits t runs u′ ys ws r steps q place long area =
+    let m = steps .landed u′ q in
+    let input : Taken = headOf (take (getD end P 0 - getD at P 0) (drop (getD at P 0) is)) in
+    turn-acts bs nodes P n room is end at bytes lengths work seat sits t runs (Acts (Goes (m .0)))
+    (owned bs nodes (record { index = P }) t room (getD lengths P 0) (areaOf P work) (Goes (m .0)) (m .1) (Acts (Goes (m .0))) (weighs-acts P (Goes (m .0)) room (getD lengths P 0) (hit (0 ∷ 1 ∷ 2 ∷ 3 ∷ []) 1 tt)))
+    (Goes (m .0)) at (back room P bytes ys) (set lengths P u′) (back areaSize P work ws) refl
+    (alone-none (Goes (m .0)) t P room is end at bytes lengths work input 0 u′ ys ws place long area refl refl
+    (acts-goes input t (record { index = P }) (getD lengths P 0) (row room P bytes) (areaOf P work) u′ ys ws (Goes (m .0)) (m .0) refl (m .2)) refl)
+
+-- what a site's step left as it was
+pub asked-turn : (bs : List ℕ) (nodes P n room : ℕ) (is : List ℤ) (end at bytes lengths work : List ℕ) (seat : Seat) → seat ≡ seatAt (areaOf P work) → (t : Stand) → seat ≡ Running t
+    → (effect : Effect) (ys ws : List ℕ) (r : Stepped) → Site.Steps bs nodes t (record { index = P }) (getD lengths P 0) (row room P bytes) (areaOf P work) r ys ws → r ≡ Asks effect
+    → (b : Bool) (at′ bytes′ lengths′ work′ : List ℕ)
+    → TurnsAsked bs nodes effect t P n room is end b at (back room P bytes ys) lengths (back areaSize P work ws) at′ bytes′ lengths′ work′
+    → Turns bs nodes P n room is end b at bytes lengths work at′ bytes′ lengths′ work′
+asked-turn bs nodes P n room is end at bytes lengths work seat sits t runs effect ys ws r steps q b at′ bytes′ lengths′ work′ k =
+    let m = steps .asks effect q in
+    let bytes-same : back room P bytes ys ≡ bytes = ap (λ (x : List ℕ). back room P bytes x) (m .2) ∙ back-same room P bytes in
+    let work-same : back areaSize P work ws ≡ work = ap (λ (x : List ℕ). back areaSize P work x) (m .3) ∙ back-same areaSize P work in
+    let l : TurnsAsked bs nodes effect t P n room is end b at bytes lengths work at′ bytes′ lengths′ work′ = rw (bytes-same, work-same) at k in
+    l .comes (sym runs ∙ sits) (m .0)

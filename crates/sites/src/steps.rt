@@ -5,6 +5,7 @@ ghost use Prim.Native.Nat.{_*_, _+_, _≤_, _<_};
 ghost use lib.ListN.{length};
 ghost use Rattle.limits.specs.Limits.{maxParties, maxFrames};
 ghost use Rattle.rules.specs.Lent.{areaSize};
+ghost use Rattle.advance.specs.Advances.{Asked};
 ghost use Rattle.sites.specs.Turns.{once, takenBy, Meets, ActsAlone};
 use area::stand::AREA;
 use area::stand::Stand;
@@ -95,7 +96,7 @@ pub fn act_alone(
     lengths: &mut [usize],
     work: &mut [u8],
 )
-    requires { ⌜ (t .depth .frames ≤ maxFrames) × (p * room + room ≤ length (now bytes)) × (p < length (now lengths)) × (p * areaSize + areaSize ≤ length (now work)) × (p < length (now at)) × (p < length (now end)) ⌝ }
+    requires { ⌜ (t .depth .frames ≤ maxFrames) × (p * room + room ≤ length (now bytes)) × (p < length (now lengths)) × (p * areaSize + areaSize ≤ length (now work)) × (p < length (now at)) × (p < length (now end)) × Asked effect ⌝ }
     ensures { λ _. ⌜ ActsAlone effect t p room (now (inputs .entry)) (now (end .entry)) (now (at .entry)) (now (bytes .entry)) (now (lengths .entry)) (now (work .entry)) (now (at .exit)) (now (bytes .exit)) (now (lengths .exit)) (now (work .exit)) ⌝ }
 {
     let i = p as usize;

@@ -1,7 +1,7 @@
 -- `acts::act` meets its contract. Assumes nothing.
 use mathlib.Core.List.{[]}
 use native.Mathlib.Omega.{arith}
-use Rattle.acts.proofs.ActLaws.{acts-refuse, acts-goes, acts-writes, acts-unread, acts-reads, acts-never}
+use Rattle.acts.proofs.ActLaws.{acts-refuse, acts-writes, acts-unread, acts-reads, acts-never}
 use Rattle.numbers.proofs.IntegerLaws.{read32}
 use borrow.Author.Needs.{needs}
 use Rattle.acts.proofs.act.Statement.{statement}
@@ -13,20 +13,17 @@ enum-known-effect c = search needs
 stop-requires : tie.Need-stop-requires
 stop-requires c κs = search needs
 
-enum-known-effect-2 : tie.Need-enum-known-effect-2
-enum-known-effect-2 c = search needs
-
-moved-requires : tie.Need-moved-requires
-moved-requires c κs = search needs
-
 enum-told : tie.Need-enum-told
 enum-told c = search needs
+
+enum-told-2 : tie.Need-enum-told-2
+enum-told-2 c = search needs
 
 enum-known-input : tie.Need-enum-known-input
 enum-known-input c = search needs
 
-enum-told-2 : tie.Need-enum-told-2
-enum-told-2 c = search needs
+enum-told-3 : tie.Need-enum-told-3
+enum-told-3 c = search needs
 
 stop-requires-2 : tie.Need-stop-requires-2
 stop-requires-2 c κs = search needs
@@ -38,19 +35,19 @@ same-length-2 : tie.Need-same-length-2
 same-length-2 c = search needs
 
 returns : tie.Need-returns
-returns c = let a = c .before .before .before .before .before .before .before .before .before .before .before .before .before .before .args in acts-unread (a .input) (a .t) (a .p) (a .used) (a .bytes .now) (a .area .now) (c .before .before .before .before .stop2 .result) _ _ (a .effect) (c .before .before .before .before .before .before .before .before .before .enum-told .given .1) (c .before .before .before .before .before .before .before .enum-told2 .given .1) (c .before .before .before .before .stop2 .ensures)
+returns c = let a = c .before .before .before .before .before .before .before .before .before .before .before .before .before .before .args in acts-unread (a .input) (a .t) (a .p) (a .used) (a .bytes .now) (a .area .now) (c .before .before .before .before .stop2 .result) _ _ (a .effect) (c .before .before .before .before .before .before .before .before .before .enum-told2 .given .1) (c .before .before .before .before .before .before .before .enum-told3 .given .1) (c .before .before .before .before .stop2 .ensures)
 
 settle-requires : tie.Need-settle-requires
 settle-requires c κs = search needs
 
-enum-known-effect-3 : tie.Need-enum-known-effect-3
-enum-known-effect-3 c = search needs
+enum-known-effect-2 : tie.Need-enum-known-effect-2
+enum-known-effect-2 c = search needs
 
 settle-requires-2 : tie.Need-settle-requires-2
 settle-requires-2 c κs = search needs
 
-enum-told-3 : tie.Need-enum-told-3
-enum-told-3 c = search needs
+enum-told-4 : tie.Need-enum-told-4
+enum-told-4 c = search needs
 
 same-length-3 : tie.Need-same-length-3
 same-length-3 c = search needs
@@ -61,14 +58,19 @@ same-length-4 c = search needs
 returns-2 : tie.Need-returns-2
 returns-2 c = let a = c .before .before .before .before .before .before .before .before .before .before .before .before .before .args in acts-refuse (a .input) (a .t) (a .p) (a .used) (a .bytes .now) (a .area .now) (c .before .before .before .before .stop .result) _ _ (a .effect) _ (c .before .before .before .before .before .before .before .before .effect .given .1) (c .before .before .before .before .stop .ensures)
 
+returns-3 : tie.Need-returns-3
+returns-3 c = absurd (rw (c .enum-told .given .1) at (c .before .before .before .before .before .pre .2))
+
 same-length-5 : tie.Need-same-length-5
 same-length-5 c = search needs
 
 same-length-6 : tie.Need-same-length-6
 same-length-6 c = search needs
 
-returns-3 : tie.Need-returns-3
-returns-3 c = let a = c .before .before .before .before .before .before .before .before .before .before .before .before .before .args in acts-goes (a .input) (a .t) (a .p) (a .used) (a .bytes .now) (a .area .now) (c .before .before .before .before .moved .result) _ _ (a .effect) _ (c .before .before .before .before .before .before .before .before .effect2 .given .1) (c .before .before .before .before .moved .ensures)
+returns-4 : tie.Need-returns-4
+returns-4 c = let a = c .before .before .before .before .before .before .before .before .before .before .before .before .before .before .before .args in
+    acts-reads (a .input) (a .t) (a .p) (a .used) (a .bytes .now) (a .area .now) (c .before .before .before .before .settle .result) _ _ (a .effect) (c .before .before .before .before .before .before .before .before .input .given .0 .0) (c .before .before .before .before .before .before .before .before .before .before .enum-told2 .given .1) (c .before .before .before .before .before .before .before .before .input .given .1)
+    (rw (read32 (c .before .before .before .before .before .before .before .before .input .given .0 .0) (record { sfits = omega arith })) at (c .before .before .before .before .settle .ensures))
 
 same-length-7 : tie.Need-same-length-7
 same-length-7 c = search needs
@@ -76,24 +78,13 @@ same-length-7 c = search needs
 same-length-8 : tie.Need-same-length-8
 same-length-8 c = search needs
 
-returns-4 : tie.Need-returns-4
-returns-4 c = let a = c .before .before .before .before .before .before .before .before .before .before .before .before .before .before .before .args in
-    acts-reads (a .input) (a .t) (a .p) (a .used) (a .bytes .now) (a .area .now) (c .before .before .before .before .settle .result) _ _ (a .effect) (c .before .before .before .before .before .before .before .before .input .given .0 .0) (c .before .before .before .before .before .before .before .before .before .before .enum-told .given .1) (c .before .before .before .before .before .before .before .before .input .given .1)
-    (rw (read32 (c .before .before .before .before .before .before .before .before .input .given .0 .0) (record { sfits = omega arith })) at (c .before .before .before .before .settle .ensures))
-
-same-length-9 : tie.Need-same-length-9
-same-length-9 c = search needs
-
-same-length-10 : tie.Need-same-length-10
-same-length-10 c = search needs
-
 returns-5 : tie.Need-returns-5
 returns-5 c = let a = c .before .before .before .before .before .before .before .before .before .before .before .before .before .args in
-    acts-writes (a .input) (a .t) (a .p) (a .used) (a .bytes .now) (a .area .now) (c .before .before .before .before .settle2 .result) _ _ (a .effect) (c .before .before .before .before .before .before .before .before .effect3 .given .0 .0) (c .before .before .before .before .before .before .before .before .effect3 .given .1)
-    (rw (read32 (c .before .before .before .before .before .before .before .before .effect3 .given .0 .0) (record { sfits = omega arith })) at (c .before .before .before .before .settle2 .ensures))
+    acts-writes (a .input) (a .t) (a .p) (a .used) (a .bytes .now) (a .area .now) (c .before .before .before .before .settle2 .result) _ _ (a .effect) (c .before .before .before .before .before .before .before .before .effect2 .given .0 .0) (c .before .before .before .before .before .before .before .before .effect2 .given .1)
+    (rw (read32 (c .before .before .before .before .before .before .before .before .effect2 .given .0 .0) (record { sfits = omega arith })) at (c .before .before .before .before .settle2 .ensures))
 
 returns-6 : tie.Need-returns-6
-returns-6 c = let a = c .before .before .before .before .before .args in acts-never (a .input) (a .t) (a .p) (a .used) (a .bytes .now) (a .area .now) 0 [] [] (a .effect) _ _ (c .enum-told3 .given .1)
+returns-6 c = let a = c .before .before .before .before .before .args in acts-never (a .input) (a .t) (a .p) (a .used) (a .bytes .now) (a .area .now) 0 [] [] (a .effect) _ _ (c .enum-told4 .given .1)
 
 pub act-spec : {M : Type 1} → statement M
 act-spec =
@@ -101,29 +92,26 @@ act-spec =
     (tie.spec
     enum-known-effect
     stop-requires
-    enum-known-effect-2
-    moved-requires
     enum-told
-    enum-known-input
     enum-told-2
+    enum-known-input
+    enum-told-3
     stop-requires-2
     same-length
     same-length-2
     returns
     settle-requires
-    enum-known-effect-3
+    enum-known-effect-2
     settle-requires-2
-    enum-told-3
+    enum-told-4
     same-length-3
     same-length-4
     returns-2
+    returns-3
     same-length-5
     same-length-6
-    returns-3
+    returns-4
     same-length-7
     same-length-8
-    returns-4
-    same-length-9
-    same-length-10
     returns-5
     returns-6)

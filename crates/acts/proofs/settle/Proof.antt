@@ -1,5 +1,6 @@
 -- `acts::settle` meets its contract. Assumes nothing.
 use Rattle.acts.proofs.ActLaws.{notes, lacks}
+use Rattle.rules.specs.declared.effects.Move.the-variants.{Hand}
 use borrow.Author.Needs.{needs}
 use Rattle.acts.proofs.settle.Statement.{statement}
 use Rattle.acts.proofs.settle.Tie as tie
@@ -28,13 +29,13 @@ same-length-2 c = search needs
 returns : tie.Need-returns
 returns c = let a = c .before .before .before .before .before .before .before .before .before .before .before .before .before .before .before .before .args in
     record {
-      settles = λ S R. lacks (a .ev) (a .mv) (a .t) (a .p .index) (a .used) (a .bytes .now) (a .area .now) S R (c .before .before .before .before .before .before .before .before .before .before .before .before .before .event-for .result) (c .before .before .before .before .before .before .before .before .before .before .before .before .before .event-for .ensures)
+      settles = λ S R. lacks (a .ev) (Hand (a .v)) (a .t) (a .p .index) (a .used) (a .bytes .now) (a .area .now) S R (c .before .before .before .before .before .before .before .before .before .before .before .before .before .event-for .result) (c .before .before .before .before .before .before .before .before .before .before .before .before .before .event-for .ensures)
           (c .before .before .before .before .stop .result) _ _ _ (rw (c .before .before .before .before .before .before .before .enum-told .given .1) at (c .before .before .before .before .before .before .before .before .before .before .before .append .ensures)) (c .before .before .before .before .stop .ensures);
       table = c .before .before .before .before .stop .ensures .table;
     }
 
-moved-requires : tie.Need-moved-requires
-moved-requires c κs = search needs
+hand-back-requires : tie.Need-hand-back-requires
+hand-back-requires c κs = search needs
 
 same-length-3 : tie.Need-same-length-3
 same-length-3 c = search needs
@@ -45,9 +46,9 @@ same-length-4 c = search needs
 returns-2 : tie.Need-returns-2
 returns-2 c = let a = c .before .before .before .before .before .before .before .before .before .before .before .before .before .before .before .before .before .args in
     record {
-      settles = λ S R. notes (a .ev) (a .mv) (a .t) (a .p .index) (a .used) (a .bytes .now) (a .area .now) S R (c .before .before .before .before .before .before .before .before .before .before .before .before .before .before .event-for .result) (c .before .before .before .before .before .before .before .before .before .before .before .before .before .before .event-for .ensures)
-          _ _ (c .before .before .before .before .moved .result) _ _ (rw (c .before .before .before .before .before .before .before .before .next .given .1) at (c .before .before .before .before .before .before .before .before .before .before .before .before .append .ensures)) (c .before .before .before .before .moved .ensures);
-      table = c .before .before .before .before .moved .ensures .table;
+      settles = λ S R. notes (a .ev) (Hand (a .v)) (a .t) (a .p .index) (a .used) (a .bytes .now) (a .area .now) S R (c .before .before .before .before .before .before .before .before .before .before .before .before .before .before .event-for .result) (c .before .before .before .before .before .before .before .before .before .before .before .before .before .before .event-for .ensures)
+          _ _ (c .before .before .before .before .hand-back .result) _ _ (rw (c .before .before .before .before .before .before .before .before .next .given .1) at (c .before .before .before .before .before .before .before .before .before .before .before .before .append .ensures)) (c .before .before .before .before .hand-back .ensures);
+      table = c .before .before .before .before .hand-back .ensures .table;
     }
 
 pub settle-spec : {M : Type 1} → statement M
@@ -62,7 +63,7 @@ settle-spec =
     same-length
     same-length-2
     returns
-    moved-requires
+    hand-back-requires
     same-length-3
     same-length-4
     returns-2)

@@ -2,7 +2,7 @@
 use mathlib.Core.Path.{sym, _∙_}
 use borrow.Author.Tests.{not-true, not-false}
 use borrow.Author.Needs.{needs}
-use Rattle.attends.proofs.AttendLaws.{at-node, at-mode, at-acts, at-there}
+use Rattle.attends.proofs.AttendLaws.{at-node, at-mode, at-not, at-there}
 use Rattle.attends.proofs.attends_from.Statement.{statement}
 use Rattle.attends.proofs.attends_from.Tie as tie
 
@@ -15,8 +15,8 @@ is-requires c κs = search needs
 returns-2 : tie.Need-returns-2
 returns-2 c = let a = c .before .before .before .before .before .before .args in at-mode (a .program .now) (a .nodes) (a .t) (a .e) (a .m) (a .p) (a .room) (a .used) (a .area .now) (c .before .before .if1 .left) (sym (c .before .is .ensures) ∙ not-true (c .before .is .result) (c .if2 .taken))
 
-asked-requires : tie.Need-asked-requires
-asked-requires c κs = c .before .before .before .before .before .before .pre
+invited-requires : tie.Need-invited-requires
+invited-requires c κs = c .before .before .before .before .before .before .pre
 
 enum-known-offer : tie.Need-enum-known-offer
 enum-known-offer c = search needs
@@ -26,11 +26,11 @@ enum-told c = search needs
 
 returns-3 : tie.Need-returns-3
 returns-3 c = let a = c .before .before .before .before .before .before .before .before .before .args in
-    at-acts (a .program .now) (a .nodes) (a .t) (a .e) (a .m) (a .p) (a .room) (a .used) (a .area .now) (c .before .before .before .before .before .if1 .left) (sym (c .before .before .before .before .is .ensures) ∙ not-false (c .before .before .before .before .is .result) (c .before .before .before .if2 .left)) (c .before .before .asked .result) (c .before .before .asked .ensures) _ (c .enum-told .given .1)
+    at-not (a .program .now) (a .nodes) (a .t) (a .e) (a .m) (a .p) (a .room) (a .used) (a .area .now) (c .before .before .before .before .before .if1 .left) (sym (c .before .before .before .before .is .ensures) ∙ not-false (c .before .before .before .before .is .result) (c .before .before .before .if2 .left)) (c .before .before .invited .result) (c .before .before .invited .ensures) (c .enum-told .given .1)
 
 returns-4 : tie.Need-returns-4
 returns-4 c = let a = c .before .before .before .before .before .before .before .before .before .before .args in
-    at-there (a .program .now) (a .nodes) (a .t) (a .e) (a .m) (a .p) (a .room) (a .used) (a .area .now) (c .before .before .before .before .before .before .if1 .left) (sym (c .before .before .before .before .before .is .ensures) ∙ not-false (c .before .before .before .before .before .is .result) (c .before .before .before .before .if2 .left)) (c .before .before .before .asked .result) (c .before .before .before .asked .ensures) _ _ (c .before .offer .given .1)
+    at-there (a .program .now) (a .nodes) (a .t) (a .e) (a .m) (a .p) (a .room) (a .used) (a .area .now) (c .before .before .before .before .before .before .if1 .left) (sym (c .before .before .before .before .before .is .ensures) ∙ not-false (c .before .before .before .before .before .is .result) (c .before .before .before .before .if2 .left)) (c .before .before .before .invited .result) (c .before .before .before .invited .ensures) _ _ (c .before .offer .given .1)
 
 pub attends-from-spec : {M : Type 1} → statement M
 attends-from-spec =
@@ -39,7 +39,7 @@ attends-from-spec =
     returns
     is-requires
     returns-2
-    asked-requires
+    invited-requires
     enum-known-offer
     enum-told
     returns-3

@@ -24,8 +24,8 @@ same-length-2 c = search needs
 returns : tie.Need-returns
 returns c = let a = c .before .before .before .before .before .before .before .before .before .before .before .before .args in parts-with (a .program .now) (a .nodes) (a .outcome) (a .t) (a .p) (a .used) (a .bytes .now) (a .area .now) (c .before .before .before .before .stop .result) _ _ (c .before .before .before .before .before .before .before .enum-told .given .1) (c .before .before .before .before .stop .ensures)
 
-asked-requires : tie.Need-asked-requires
-asked-requires c κs = search needs
+invited-requires : tie.Need-invited-requires
+invited-requires c κs = search needs
 
 enum-known-mt : tie.Need-enum-known-mt
 enum-known-mt c = search needs
@@ -38,7 +38,7 @@ same-length-3 c = search needs
 
 returns-2 : tie.Need-returns-2
 returns-2 c = let a = c .before .before .before .before .before .before .before .before .before .before .args in
-    joins-not (a .program .now) (a .nodes) (a .outcome) (a .t) (a .p) (a .used) (a .bytes .now) (a .area .now) _ (c .before .before .before .before .before .outcome .given .1) (c .before .before .asked .result) (c .before .before .asked .ensures) _ (c .enum-told2 .given .1)
+    joins-not (a .program .now) (a .nodes) (a .outcome) (a .t) (a .p) (a .used) (a .bytes .now) (a .area .now) _ (c .before .before .before .before .before .outcome .given .1) (c .before .before .invited .result) (c .before .before .invited .ensures) (c .enum-told2 .given .1)
 
 join-requires : tie.Need-join-requires
 join-requires c κs = search needs
@@ -51,7 +51,7 @@ same-length-5 c = search needs
 
 returns-3 : tie.Need-returns-3
 returns-3 c = let a = c .before .before .before .before .before .before .before .before .before .before .before .before .before .before .before .before .before .before .args in
-    joins-in (a .program .now) (a .nodes) (a .outcome) (a .t) (a .p) (a .used) (a .bytes .now) (a .area .now) (c .before .before .before .before .before .before .before .before .before .before .before .before .before .outcome .given .0 .0) (c .before .before .before .before .before .before .before .before .before .before .before .before .before .outcome .given .1) (c .before .before .before .before .before .before .before .before .before .before .asked .result) (c .before .before .before .before .before .before .before .before .before .before .asked .ensures)
+    joins-in (a .program .now) (a .nodes) (a .outcome) (a .t) (a .p) (a .used) (a .bytes .now) (a .area .now) (c .before .before .before .before .before .before .before .before .before .before .before .before .before .outcome .given .0 .0) (c .before .before .before .before .before .before .before .before .before .before .before .before .before .outcome .given .1) (c .before .before .before .before .before .before .before .before .before .before .invited .result) (c .before .before .before .before .before .before .before .before .before .before .invited .ensures)
     _ _ (c .before .before .before .before .join .result) _ _ (c .before .before .before .before .before .before .before .before .mt .given .1) (rw (read32 (c .before .before .before .before .before .before .before .before .before .before .before .before .before .outcome .given .0 .0) (record { sfits = omega arith })) at (c .before .before .before .before .join .ensures))
 
 pub take-part-spec : {M : Type 1} → statement M
@@ -64,7 +64,7 @@ take-part-spec =
     same-length
     same-length-2
     returns
-    asked-requires
+    invited-requires
     enum-known-mt
     enum-told-2
     same-length-3

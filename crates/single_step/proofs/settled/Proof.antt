@@ -1,6 +1,7 @@
 -- `single_step::settled` meets its contract. Assumes nothing.
 use mathlib.Core.Path.{sym, _∙_}
 use borrow.Author.Needs.{needs}
+use Rattle.rules.specs.declared.effects.Move.the-variants.{Hand}
 use Rattle.single_step.proofs.StepLaws.{settled-by, settled-not}
 use Rattle.single_step.proofs.settled.Statement.{statement}
 use Rattle.single_step.proofs.settled.Tie as tie
@@ -11,8 +12,8 @@ room-for-all-requires c κs = search needs
 note-all-requires : tie.Need-note-all-requires
 note-all-requires c κs = search needs
 
-moved-requires : tie.Need-moved-requires
-moved-requires c κs = search needs
+hand-back-requires : tie.Need-hand-back-requires
+hand-back-requires c κs = search needs
 
 same-length : tie.Need-same-length
 same-length c = search needs
@@ -25,14 +26,14 @@ same-length-3 c = search needs
 
 returns : tie.Need-returns
 returns c = let a = c .before .before .before .before .before .before .before .before .before .before .before .before .before .before .before .before .before .before .before .before .before .before .before .before .args in
-    settled-by (a .room) (a .n) (a .ev) (a .mv) (a .t) (a .bytes .now) (a .lengths .now) (a .work .now) _ _ _ _ _ _ (sym (c .before .before .before .before .before .before .before .before .before .before .before .before .before .before .before .before .before .before .room-for-all .ensures) ∙ c .before .before .before .before .before .before .before .before .before .before .before .before .before .before .before .before .before .if1 .taken) (c .before .before .before .before .before .before .before .before .before .before .before .before .before .before .note-all .ensures) (c .before .before .before .before .before .before .moved .ensures)
+    settled-by (a .room) (a .n) (a .ev) (Hand (a .v)) (a .t) (a .bytes .now) (a .lengths .now) (a .work .now) _ _ _ _ _ _ (sym (c .before .before .before .before .before .before .before .before .before .before .before .before .before .before .before .before .before .before .room-for-all .ensures) ∙ c .before .before .before .before .before .before .before .before .before .before .before .before .before .before .before .before .before .if1 .taken) (c .before .before .before .before .before .before .before .before .before .before .before .before .before .before .note-all .ensures) (c .before .before .before .before .before .before .hand-back .ensures)
 
 same-length-4 : tie.Need-same-length-4
 same-length-4 c = search needs
 
 returns-2 : tie.Need-returns-2
 returns-2 c = let a = c .before .before .before .before .before .before .before .args in
-    settled-not (a .room) (a .n) (a .ev) (a .mv) (a .t) (a .bytes .now) (a .lengths .now) (a .work .now) (sym (c .before .room-for-all .ensures) ∙ c .if1 .left)
+    settled-not (a .room) (a .n) (a .ev) (Hand (a .v)) (a .t) (a .bytes .now) (a .lengths .now) (a .work .now) (sym (c .before .room-for-all .ensures) ∙ c .if1 .left)
 
 pub settled-spec : {M : Type 1} → statement M
 settled-spec =
@@ -40,7 +41,7 @@ settled-spec =
     (tie.spec
     room-for-all-requires
     note-all-requires
-    moved-requires
+    hand-back-requires
     same-length
     same-length-2
     same-length-3

@@ -1,26 +1,31 @@
 -- `single_step::step` meets its contract. Assumes nothing.
-use mathlib.Core.Path.{sym, ap, subst, _∙_}
+use mathlib.Core.Path.{refl, sym, subst}
 use borrow.Author.Needs.{needs}
-use Rattle.nodes.specs.declared.Node.{Node}
-use Rattle.rules.specs.Rules.{rule}
 use Rattle.rules.specs.declared.effects.Effect.{Effect}
-use Rattle.rules.specs.declared.effects.View.the-variants.{Whole}
-use Rattle.area.specs.Levels.{namesAt}
+use Rattle.rules.specs.declared.effects.Effect.the-variants.{Goes}
 use Rattle.rules.specs.RunLaws.{Sound, whole-sound}
-use Rattle.single_step.proofs.PerformLaws.{steps-on}
+use Rattle.single_step.proofs.StepLaws.{moved-by}
+use Rattle.single_step.proofs.PerformLaws.{goes, steps-on}
 use Rattle.single_step.proofs.step.Statement.{statement}
 use Rattle.single_step.proofs.step.Tie as tie
 
-node-requires : tie.Need-node-requires
-node-requires c κs = search needs
+advance-requires : tie.Need-advance-requires
+advance-requires c κs = search needs
 
-effect-requires : tie.Need-effect-requires
-effect-requires c κs = search needs
+enum-known-next : tie.Need-enum-known-next
+enum-known-next c = search needs
+
+arrive-requires : tie.Need-arrive-requires
+arrive-requires c κs = search needs
+
+enum-known-effect : tie.Need-enum-known-effect
+enum-known-effect c = search needs
 
 performed-requires : tie.Need-performed-requires
-performed-requires c κs = let p = c .before .before .before .before .before .before .before .before .before .before .before .before .before .before .pre in
-    let m = c .before .before .before .before .before .before .before .before .before .before .before .before .before .before .args .t .mode in
-    (p .0, p .1, p .2, p .3, p .4, p .5, p .6, subst (λ (x : Effect). Sound m x) (sym (c .before .before .before .before .effect .ensures)) (whole-sound m _ _))
+performed-requires c κs = let p = c .before .before .before .before .before .before .before .before .before .before .before .before .before .before .before .before .before .pre in
+    let m = c .before .before .before .before .before .before .before .before .before .before .before .before .before .before .before .before .before .args .t .mode in
+    let r = c .before .before .before .before .before .before .before .before .before .advance .ensures .asks _ (c .before .before .before .before .before .effect .given .1) in
+    (p .0, p .1, p .2, p .3, rw (r .2) (p .4), p .5, p .6, subst (λ (x : Effect). Sound m x) (sym (r .0)) (whole-sound m _ _), r .1)
 
 same-length : tie.Need-same-length
 same-length c = search needs
@@ -31,23 +36,44 @@ same-length-2 c = search needs
 same-length-3 : tie.Need-same-length-3
 same-length-3 c = search needs
 
+returns : tie.Need-returns
+returns c = let a = c .before .before .before .before .before .before .before .before .before .before .before .before .before .before .before .before .before .before .before .before .args in
+    let r = c .before .before .before .before .before .before .before .before .before .before .before .before .advance .ensures .moved _ (c .before .before .before .before .before .before .before .before .next .given .1) in
+    steps-on (a .program .now) (a .nodes) (a .room) (a .n) (a .inputs .now) (a .end .now) (a .t) _ (record { bytes = a .bytes .now; lengths = a .lengths .now; work = a .work .now; at = a .at .now }) _ (Goes (r .0)) (r .1)
+    (goes (a .room) (a .n) (a .inputs .now) (a .end .now) (a .t) (record { bytes = a .bytes .now; lengths = a .lengths .now; work = a .work .now; at = a .at .now }) (r .0) _ _ refl (moved-by (a .room) (a .n) (r .0) (a .t) _ _ (a .bytes .now) (a .lengths .now) (a .work .now) _ _ _ (r .2) (c .before .before .before .before .arrive .ensures)))
+
 same-length-4 : tie.Need-same-length-4
 same-length-4 c = search needs
 
-returns : tie.Need-returns
-returns c = let a = c .before .before .before .before .before .before .before .before .before .before .before .before .before .before .before .before .before .before .before .before .before .before .before .args in
-    steps-on (a .program .now) (a .nodes) (a .room) (a .n) (a .inputs .now) (a .end .now) (a .t) _ (record { bytes = a .bytes .now; lengths = a .lengths .now; work = a .work .now; at = a .at .now }) _ _
-    (c .before .before .before .before .before .before .before .before .before .before .before .before .before .effect .ensures ∙ ap (λ (x : Node). rule Whole x (a .t .mode) (namesAt (a .work .now) (a .t .depth .frames))) (c .before .before .before .before .before .before .before .before .before .before .before .before .before .before .before .node .ensures)) (c .before .before .before .before .before .before .before .before .performed .ensures)
+same-length-5 : tie.Need-same-length-5
+same-length-5 c = search needs
+
+same-length-6 : tie.Need-same-length-6
+same-length-6 c = search needs
+
+same-length-7 : tie.Need-same-length-7
+same-length-7 c = search needs
+
+returns-2 : tie.Need-returns-2
+returns-2 c = let a = c .before .before .before .before .before .before .before .before .before .before .before .before .before .before .before .before .before .before .before .before .before .before .before .before .before .before .args in
+    let r = c .before .before .before .before .before .before .before .before .before .before .before .before .before .before .before .before .before .before .advance .ensures .asks _ (c .before .before .before .before .before .before .before .before .before .before .before .before .before .before .effect .given .1) in
+    steps-on (a .program .now) (a .nodes) (a .room) (a .n) (a .inputs .now) (a .end .now) (a .t) _ (record { bytes = a .bytes .now; lengths = a .lengths .now; work = a .work .now; at = a .at .now }) _ _ (r .0) (rw (r .2) at (c .before .before .before .before .before .before .before .before .performed .ensures))
 
 pub step-spec : {M : Type 1} → statement M
 step-spec =
     tie.close
     (tie.spec
-    node-requires
-    effect-requires
+    advance-requires
+    enum-known-next
+    arrive-requires
+    enum-known-effect
     performed-requires
     same-length
     same-length-2
     same-length-3
+    returns
     same-length-4
-    returns)
+    same-length-5
+    same-length-6
+    same-length-7
+    returns-2)

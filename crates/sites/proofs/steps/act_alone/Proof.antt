@@ -51,7 +51,7 @@ part-act-end-2 : tie.Need-part-act-end-2
 part-act-end-2 c = search needs
 
 act-requires : tie.Need-act-requires
-act-requires c κs = search needs
+act-requires c κs = let p = c .before .before .before .before .before .before .before .before .before .before .pre in (p .0, search needs, p .6)
 
 mul-lengths : tie.Need-mul-lengths
 mul-lengths c = search needs

@@ -6,8 +6,8 @@ use Rattle.invariants.proofs.RowLaws.{rows}
 use Rattle.seats.specs.Seats.{DeepSeat}
 use Rattle.seats.proofs.SeatLaws.{seat-deep}
 use Rattle.meets.specs.Places.{areaOf}
-use Rattle.concludes.proofs.RowLaws.{row-length}
-use Rattle.sites.proofs.TurnLaws.{turn-over, turn-meets, turn-acts}
+use Rattle.concludes.proofs.RowLaws.{back-same, row-length}
+use Rattle.sites.proofs.TurnLaws.{turn-over, turn-landed, asked-turn}
 use borrow.Author.Needs.{needs}
 use Rattle.sites.proofs.turns.turn.Statement.{statement}
 use Rattle.sites.proofs.turns.turn.Tie as tie
@@ -46,40 +46,51 @@ returns : tie.Need-returns
 returns c = let a = c .before .before .before .before .before .before .before .before .before .before .before .args in
     turn-over (a .program .now) (a .nodes) (a .p) (a .n) (a .room) (a .inputs .now) (a .end .now) (a .at .now) (a .bytes .now) (a .lengths .now) (a .work .now) (c .before .load-seat .result) (c .before .load-seat .ensures) (c .match .keys2)
 
-sub-asked : tie.Need-sub-asked
-sub-asked c = search needs
+mul-start : tie.Need-mul-start
+mul-start c = let a = c .before .before .before .before .before .before .before .before .before .before .before .before .before .args in omega (arith, rows (a .p) (a .n) (a .room) (c .before .before .before .before .before .before .before .before .before .before .before .before .before .pre .0), c .before .before .before .before .before .before .before .before .before .before .before .before .before .pre .2, c .before .before .before .before .before .before .before .before .before .before .before .before .before .good)
 
-part-asked-start : tie.Need-part-asked-start
-part-asked-start c = search needs
+add-stop : tie.Need-add-stop
+add-stop c = let a = c .before .before .before .before .before .before .before .before .before .before .before .before .before .args in omega (arith, rows (a .p) (a .n) (a .room) (c .before .before .before .before .before .before .before .before .before .before .before .before .before .pre .0), c .before .before .before .before .before .before .before .before .before .before .before .before .before .pre .2, c .before .before .before .before .before .before .before .before .before .before .before .before .before .good)
 
-part-asked-end : tie.Need-part-asked-end
-part-asked-end c = search needs
+sub-step : tie.Need-sub-step
+sub-step c = search needs
 
-asked-requires : tie.Need-asked-requires
-asked-requires c κs = let a = c .before .before .before .before .before .before .before .before .before .before .before .before .before .before .before .before .args in (
-  subst DeepSeat (sym (c .before .before .before .before .before .before .load-seat .ensures) ∙ c .before .before .before .before .t .given .1) (seat-deep (areaOf (a .p) (a .work .now))),
-  omega (arith, row-length areaSize (a .p) (a .work .now) (omega (arith, rows (a .p) (a .n) areaSize (c .before .before .before .before .before .before .before .before .before .before .before .before .before .before .before .before .pre .0), c .before .before .before .before .before .before .before .before .before .before .before .before .before .before .before .before .pre .4))),
-)
+part-step-start : tie.Need-part-step-start
+part-step-start c = search needs
 
-enum-known-mt : tie.Need-enum-known-mt
-enum-known-mt c = search needs
+part-step-end : tie.Need-part-step-end
+part-step-end c = let a = c .before .before .before .before .before .before .before .before .before .before .before .before .before .args in omega (arith, rows (a .p) (a .n) (a .room) (c .before .before .before .before .before .before .before .before .before .before .before .before .before .pre .0), c .before .before .before .before .before .before .before .before .before .before .before .before .before .pre .2, c .before .before .before .before .before .before .before .before .before .before .before .before .before .good)
 
-meet-requires : tie.Need-meet-requires
-meet-requires c κs = search needs
+sub-step-2 : tie.Need-sub-step-2
+sub-step-2 c = search needs
+
+part-step-start-2 : tie.Need-part-step-start-2
+part-step-start-2 c = search needs
+
+part-step-end-2 : tie.Need-part-step-end-2
+part-step-end-2 c = search needs
+
+step-requires : tie.Need-step-requires
+step-requires c κs = let a = c .before .before .before .before .before .before .before .before .before .before .before .before .before .before .before .args in
+    let p = c .before .before .before .before .before .before .before .before .before .before .before .before .before .before .before .pre in (subst DeepSeat (sym (c .before .before .before .before .before .load-seat .ensures) ∙ c .before .before .before .t .given .1) (seat-deep (areaOf (a .p) (a .work .now))), omega (arith, row-length areaSize (a .p) (a .work .now) (omega (arith, rows (a .p) (a .n) areaSize (p .0), p .4))))
+
+enum-known-next : tie.Need-enum-known-next
+enum-known-next c = search needs
+
+mul-lengths : tie.Need-mul-lengths
+mul-lengths c = search needs
+
+slice-write-lengths : tie.Need-slice-write-lengths
+slice-write-lengths c = search needs
 
 enum-known-effect : tie.Need-enum-known-effect
 enum-known-effect c = search needs
 
-act-alone-requires : tie.Need-act-alone-requires
-act-alone-requires c κs = let a = c .before .before .before .before .before .before .before .before .before .before .before .before .before .before .before .before .before .before .before .before .before .before .before .before .args in
-    let pre = c .before .before .before .before .before .before .before .before .before .before .before .before .before .before .before .before .before .before .before .before .before .before .before .before .pre in (
-      subst DeepSeat (sym (c .before .before .before .before .before .before .before .before .before .before .before .before .before .before .load-seat .ensures) ∙ c .before .before .before .before .before .before .before .before .before .before .before .before .t .given .1) (seat-deep (areaOf (a .p) (a .work .now))),
-      omega (arith, rows (a .p) (a .n) (a .room) (pre .0), pre .2),
-      omega (arith, pre .0, pre .3),
-      omega (arith, rows (a .p) (a .n) areaSize (pre .0), pre .4),
-      omega (arith, pre .0, pre .1, pre .5),
-      omega (arith, pre .0, pre .1, pre .6),
-    )
+asked-requires : tie.Need-asked-requires
+asked-requires c κs = let a = c .before .before .before .before .before .before .before .before .before .before .before .before .before .before .before .before .before .before .before .before .before .before .before .before .before .before .before .args in
+    let p = c .before .before .before .before .before .before .before .before .before .before .before .before .before .before .before .before .before .before .before .before .before .before .before .before .before .before .before .pre in
+    let m = c .before .before .before .before .before .before .before .before .before .before .before .step .ensures .asks _ (c .before .before .before .before .before .effect .given .1) in
+    (p .0, p .1, rw (m .2, back-same (a .room) (a .p) (a .bytes .now)) (p .2), p .3, rw (m .3, back-same areaSize (a .p) (a .work .now)) (p .4), p .5, p .6, subst DeepSeat (sym (c .before .before .before .before .before .before .before .before .before .before .before .before .before .before .before .before .before .load-seat .ensures) ∙ c .before .before .before .before .before .before .before .before .before .before .before .before .before .before .before .t .given .1) (seat-deep (areaOf (a .p) (a .work .now))), m .1)
 
 same-length-2 : tie.Need-same-length-2
 same-length-2 c = search needs
@@ -91,9 +102,10 @@ same-length-4 : tie.Need-same-length-4
 same-length-4 c = search needs
 
 returns-2 : tie.Need-returns-2
-returns-2 c = let a = c .before .before .before .before .before .before .before .before .before .before .before .before .before .before .before .before .before .before .before .before .before .before .before .before .before .before .before .before .before .before .args in
-    turn-meets (a .program .now) (a .nodes) (a .p) (a .n) (a .room) (a .inputs .now) (a .end .now) (a .at .now) (a .bytes .now) (a .lengths .now) (a .work .now) (c .before .before .before .before .before .before .before .before .before .before .before .before .before .before .before .before .before .before .before .before .load-seat .result) (c .before .before .before .before .before .before .before .before .before .before .before .before .before .before .before .before .before .before .before .before .load-seat .ensures)
-    _ (c .before .before .before .before .before .before .before .before .before .before .before .before .before .before .before .before .before .before .t .given .1) (c .before .before .before .before .before .before .before .before .before .before .before .before .before .asked .result) (c .before .before .before .before .before .before .before .before .before .before .before .before .before .asked .ensures) _ _ (c .before .before .before .before .before .before .meet .result) _ _ _ (c .before .before .before .before .before .before .before .before .before .before .before .mt .given .1) (c .before .before .before .before .before .before .meet .ensures)
+returns-2 c = let a = c .before .before .before .before .before .before .before .before .before .before .before .before .before .before .before .before .before .before .before .before .before .before .before .args in
+    let p = c .before .before .before .before .before .before .before .before .before .before .before .before .before .before .before .before .before .before .before .before .before .before .before .pre in
+    turn-landed (a .program .now) (a .nodes) (a .p) (a .n) (a .room) (a .inputs .now) (a .end .now) (a .at .now) (a .bytes .now) (a .lengths .now) (a .work .now) (c .before .before .before .before .before .before .before .before .before .before .before .before .before .load-seat .result) (c .before .before .before .before .before .before .before .before .before .before .before .before .before .load-seat .ensures) _ (c .before .before .before .before .before .before .before .before .before .before .before .t .given .1) _ _ _ (c .before .before .before .before .before .before .before .step .result) (c .before .before .before .before .before .before .before .step .ensures) (c .before .next .given .1)
+    (omega (arith, p .0, p .1, p .5)) (omega (arith, rows (a .p) (a .n) areaSize (p .0), p .4)) (c .before .before .before .before .before .before .before .step .kept .1 .1 .1 .1 .1 .1 .0 ∙ row-length areaSize (a .p) (a .work .now) (omega (arith, rows (a .p) (a .n) areaSize (p .0), p .4)))
 
 same-length-5 : tie.Need-same-length-5
 same-length-5 c = search needs
@@ -108,9 +120,8 @@ same-length-8 : tie.Need-same-length-8
 same-length-8 c = search needs
 
 returns-3 : tie.Need-returns-3
-returns-3 c = let a = c .before .before .before .before .before .before .before .before .before .before .before .before .before .before .before .before .before .before .before .before .before .before .before .before .before .before .before .before .before .before .before .before .before .args in
-    turn-acts (a .program .now) (a .nodes) (a .p) (a .n) (a .room) (a .inputs .now) (a .end .now) (a .at .now) (a .bytes .now) (a .lengths .now) (a .work .now) (c .before .before .before .before .before .before .before .before .before .before .before .before .before .before .before .before .before .before .before .before .before .before .before .load-seat .result) (c .before .before .before .before .before .before .before .before .before .before .before .before .before .before .before .before .before .before .before .before .before .before .before .load-seat .ensures)
-    _ (c .before .before .before .before .before .before .before .before .before .before .before .before .before .before .before .before .before .before .before .before .before .t .given .1) (c .before .before .before .before .before .before .before .before .before .before .before .before .before .before .before .before .asked .result) (c .before .before .before .before .before .before .before .before .before .before .before .before .before .before .before .before .asked .ensures) _ _ _ _ _ (c .before .before .before .before .before .before .before .before .before .before .before .before .before .before .effect .given .1) (c .before .before .before .before .before .before .before .before .act-alone .ensures)
+returns-3 c = let a = c .before .before .before .before .before .before .before .before .before .before .before .before .before .before .before .before .before .before .before .before .before .before .before .before .before .before .before .before .before .before .before .before .before .before .before .before .args in
+    asked-turn (a .program .now) (a .nodes) (a .p) (a .n) (a .room) (a .inputs .now) (a .end .now) (a .at .now) (a .bytes .now) (a .lengths .now) (a .work .now) (c .before .before .before .before .before .before .before .before .before .before .before .before .before .before .before .before .before .before .before .before .before .before .before .before .before .before .load-seat .result) (c .before .before .before .before .before .before .before .before .before .before .before .before .before .before .before .before .before .before .before .before .before .before .before .before .before .before .load-seat .ensures) _ (c .before .before .before .before .before .before .before .before .before .before .before .before .before .before .before .before .before .before .before .before .before .before .before .before .t .given .1) _ _ _ (c .before .before .before .before .before .before .before .before .before .before .before .before .before .before .before .before .before .before .before .before .step .result) (c .before .before .before .before .before .before .before .before .before .before .before .before .before .before .before .before .before .before .before .before .step .ensures) (c .before .before .before .before .before .before .before .before .before .before .before .before .before .before .effect .given .1) (c .before .before .before .before .before .before .before .before .asked .result) _ _ _ _ (c .before .before .before .before .before .before .before .before .asked .ensures)
 
 pub turn-spec : {M : Type 1} → statement M
 turn-spec =
@@ -127,14 +138,20 @@ turn-spec =
     enum-known-t
     same-length
     returns
-    sub-asked
-    part-asked-start
-    part-asked-end
-    asked-requires
-    enum-known-mt
-    meet-requires
+    mul-start
+    add-stop
+    sub-step
+    part-step-start
+    part-step-end
+    sub-step-2
+    part-step-start-2
+    part-step-end-2
+    step-requires
+    enum-known-next
+    mul-lengths
+    slice-write-lengths
     enum-known-effect
-    act-alone-requires
+    asked-requires
     same-length-2
     same-length-3
     same-length-4
