@@ -23,21 +23,16 @@ use Rattle.refusals.specs.Numbers.{disagreement}
 use Rattle.rules.specs.Books.{Book, used, handed, eventOf}
 use Rattle.rules.specs.Lent.{areaSize}
 use Rattle.rules.specs.Single.{Setting}
-use Rattle.rules.specs.Joint.{Site, Sites, running, stop, joinsBy, joins, parts, putAll, bookOf}
+use Rattle.rules.specs.Joint.{Site, Sites, running, stop, parts, putAll, bookOf}
 use Rattle.rules.specs.declared.effects.Move.the-variants.{Hand}
 use Rattle.rules.specs.declared.effects.Meeting.{Meeting}
-use Rattle.rules.specs.declared.effects.Offer.{Offer}
-use Rattle.rules.specs.declared.effects.Effect.{Effect}
 use Rattle.invariants.specs.Room.{Fits}
 use Rattle.area.specs.Levels.{controlOf}
 use Rattle.seats.specs.Seats.{seatAt, seated, siteOf}
 use Rattle.area.specs.declared.stand.Stand.{Stand}
 use Rattle.seats.specs.declared.Seat.{Seat}
 use Rattle.seats.specs.declared.Seat.the-variants.{Running, Finished, Stopped}
-use Rattle.site.specs.Own.{Invites}
 use Rattle.acts.specs.Acts.{Took, Takes, Settles}
-use Rattle.site.specs.declared.own.Invitation.{Invitation}
-use Rattle.site.specs.declared.own.Invitation.the-variants.{Not, To}
 use Rattle.meets.specs.Places.{row, areaOf, settingOf, Given, Stands}
 use Rattle.concludes.specs.Concludes.{concluding, TakesPart, ConcludesOne, ConcludesAll}
 use Rattle.concludes.specs.declared.Outcome.{Outcome}
@@ -46,59 +41,31 @@ use Rattle.concludes.proofs.RowLaws.{back, row-length}
 use Rattle.concludes.proofs.StandLaws.{NotRunning, stands-same, stands-length, stands-long, stands-changed}
 
 -- ---- a member's part, on its own record and area
-module _ (bs : List ℕ) (nodes : ℕ) (outcome : Outcome) (t : Stand) (P : Party) (u : ℕ) (xs w : List ℕ) where
-  pub parts-with : (u′ : ℕ) (xs′ w′ : List ℕ) → outcome ≡ Parts → Takes (stop disagreement (t .node)) u xs w u′ xs′ w′ → TakesPart bs nodes outcome t P u xs w u′ xs′ w′
+module _ (outcome : Outcome) (t : Stand) (P : Party) (u : ℕ) (xs w : List ℕ) (u′ : ℕ) (xs′ w′ : List ℕ) where
+  pub parts-with : outcome ≡ Parts → Takes (stop disagreement (t .node)) u xs w u′ xs′ w′ → TakesPart outcome t P u xs w u′ xs′ w′
   unfolding parts controlOf
-  parts-with u′ xs′ w′ q s = rw q (record { part = λ p g len places seat b o h. s .took b o h; table = s .table })
+  parts-with q s = rw q (record { part = λ p b o h. s .took b o h; table = s .table })
 
-  module _ (i : ℤ) (joins′ : outcome ≡ Joins i) (r : Invitation) (invites : Invites bs nodes P t (length xs) u r w) where
-    -- it is not at the meeting
-    pub joins-not : r ≡ Not → TakesPart bs nodes outcome t P u xs w u xs w
-    unfolding joins joinsBy siteOf
-    joins-not q =
-        let no : Invites bs nodes P t (length xs) u Not w = rw q at invites in
-        rw joins′
-        record {
-          part = λ p g len places seat b o h.
-              rw (no .comes p g len places b o .1)
-              record {
-                more = [];
-                bytes = refl;
-                count = sym (add-zero u);
-                grown = sym (append-nil (written (b .events)));
-                fits = rw o h;
-                stands = rw seat;
-              };
-          table = refl;
-        }
-
-    pub joins-in : (mt : Meeting) (o : Offer) (u′ : ℕ) (xs′ w′ : List ℕ) → r ≡ To mt o → Settles (eventOf mt i) (Hand (slice (P .index) (handed mt i))) t P u xs w u′ xs′ w′
-        → TakesPart bs nodes outcome t P u xs w u′ xs′ w′
-    unfolding joins joinsBy
-    joins-in mt o u′ xs′ w′ q s =
-        let to : Invites bs nodes P t (length xs) u (To mt o) w = rw q at invites in
-        rw joins′
-        record {
-          part = λ p g len places seat b e h. rw (to .comes p g len places b e) (s .settles (settingOf p (length xs)) refl .took b e h);
-          table = s .table;
-        }
+  pub joins-in : (mt : Meeting) (i : ℤ) → outcome ≡ Joins mt i → Settles (eventOf mt i) (Hand (slice (P .index) (handed mt i))) t P u xs w u′ xs′ w′
+      → TakesPart outcome t P u xs w u′ xs′ w′
+  joins-in mt i q s = rw q (record { part = λ p b e h. s .settles (settingOf p (length xs)) refl .took b e h; table = s .table })
 
 -- ---- one site
 -- who runs no more comes to nothing else
 over-stays : (outcome : Outcome) (S : Setting) (P : ℕ) (seat : Seat) (w : List ℕ) (b : Book) → NotRunning seat → concluding outcome S P (seated seat w b) ≡ seated seat w b
-unfolding joins parts
+unfolding parts
 over-stays outcome S P (Running t) w b h = absurd (miss (1 ∷ 2 ∷ []) 0 tt h)
-over-stays (Joins i) S P Finished w b h = refl
+over-stays (Joins mt i) S P Finished w b h = refl
 over-stays Parts S P Finished w b h = refl
-over-stays (Joins i) S P Stopped w b h = refl
+over-stays (Joins mt i) S P Stopped w b h = refl
 over-stays Parts S P Stopped w b h = refl
 
-module _ (bs : List ℕ) (nodes : ℕ) (outcome : Outcome) (P room : ℕ) (bytes lengths work : List ℕ) (seat : Seat) (sits : seat ≡ seatAt (areaOf P work)) where
-  pub member-over : NotRunning seat → ConcludesOne bs nodes outcome P room bytes lengths work bytes lengths work
+module _ (outcome : Outcome) (P room : ℕ) (bytes lengths work : List ℕ) (seat : Seat) (sits : seat ≡ seatAt (areaOf P work)) where
+  pub member-over : NotRunning seat → ConcludesOne outcome P room bytes lengths work bytes lengths work
   unfolding siteOf
   member-over h =
       record {
-        comes = λ n G J J′ inside st own others.
+        comes = λ bs nodes n G J J′ inside st own others.
             let S : Setting = settingOf (G .program) room in
             let e : J P ≡ seated seat (areaOf P work) (bookOf (J P)) = st .sits P inside ∙ rw (← sits) in
             let k : concluding outcome S P (J P) ≡ J P = ap (concluding outcome S P) e ∙ over-stays outcome S P seat (areaOf P work) (bookOf (J P)) h ∙ sym e in
@@ -110,12 +77,12 @@ module _ (bs : List ℕ) (nodes : ℕ) (outcome : Outcome) (P room : ℕ) (bytes
       }
 
   module _ (t : Stand) (runs : seat ≡ Running t) (u′ : ℕ) (ys ws : List ℕ) (area : length ws ≡ areaSize) (long : P * areaSize + areaSize ≤ length work)
-      (takes : TakesPart bs nodes outcome t (record { index = P }) (getD lengths P 0) (row room P bytes) (areaOf P work) u′ ys ws) where
-    pub member-runs : ConcludesOne bs nodes outcome P room bytes lengths work (back room P bytes ys) (set lengths P u′) (back areaSize P work ws)
+      (takes : TakesPart outcome t (record { index = P }) (getD lengths P 0) (row room P bytes) (areaOf P work) u′ ys ws) where
+    pub member-runs : ConcludesOne outcome P room bytes lengths work (back room P bytes ys) (set lengths P u′) (back areaSize P work ws)
     unfolding siteOf
     member-runs =
         record {
-          comes = λ n G J J′ inside st own others.
+          comes = λ bs nodes n G J J′ inside st own others.
               let S : Setting = settingOf (G .program) room in
               let b : Book = bookOf (J P) in
               let c : J P ≡ running (controlOf t (areaOf P work)) b = st .sits P inside ∙ rw (← sits, runs) in
@@ -123,7 +90,7 @@ module _ (bs : List ℕ) (nodes : ℕ) (outcome : Outcome) (P room : ℕ) (bytes
               let fits : used b + heldBack ≤ room = subst (λ (s : Site). Fits room s) c (st .fits P inside) in
               let count : used b ≡ getD lengths P 0 = stands-length G J J bytes lengths work st P inside in
               let k : Took b (concluding outcome (settingOf (G .program) (length (row room P bytes))) P (running (controlOf t (areaOf P work)) b)) (getD lengths P 0) (row room P bytes) u′ ys ws
-              = takes .part (G .program) (G .sound) (G .count) (st .tables P inside) (sym sits ∙ runs) b count (rw (← count, room-is) fits) in
+              = takes .part (G .program) b count (rw (← count, room-is) fits) in
               let s : J′ P ≡ concluding outcome (settingOf (G .program) (length (row room P bytes))) P (running (controlOf t (areaOf P work)) b)
               = own ∙ ap (concluding outcome S P) c ∙ ap (λ (R : ℕ). concluding outcome (settingOf (G .program) R) P (running (controlOf t (areaOf P work)) b)) (sym room-is) in
               stands-changed G J J′ bytes lengths work st P inside others u′ ys ws long area
@@ -147,10 +114,10 @@ below-other k m f J Q d =
       | no l ↦ rw (le-ltb Q k (omega arith), le-ltb Q (k + 1) (omega arith))
     ]
 
-module _ (bs : List ℕ) (nodes : ℕ) (outcome : Outcome) (m : PartySet) (n room : ℕ) (bytes₀ lengths₀ work₀ : List ℕ) where
+module _ (outcome : Outcome) (m : PartySet) (n room : ℕ) (bytes₀ lengths₀ work₀ : List ℕ) where
   -- the bytes hold the sites once those below k have come to their conclusion
   pub record Going (bytes lengths work : List ℕ) (k : ℕ) : Type 0 where
-    pub so : (G : Given bs nodes room n) (J : Sites) → Stands G J bytes₀ lengths₀ work₀ → Stands G (below k m (concluding outcome (settingOf (G .program) room)) J) bytes lengths work
+    pub so : (bs : List ℕ) (nodes : ℕ) (G : Given bs nodes room n) (J : Sites) → Stands G J bytes₀ lengths₀ work₀ → Stands G (below k m (concluding outcome (settingOf (G .program) room)) J) bytes lengths work
 
   -- the loop is at party p
   abbrev pub GoingAt : (bytes lengths work : List ℕ) → ℕ → Type 0
@@ -161,9 +128,9 @@ module _ (bs : List ℕ) (nodes : ℕ) (outcome : Outcome) (m : PartySet) (n roo
     going-out : (k : ℕ) → member k m ≡ false → Going bytes lengths work k → Going bytes lengths work (k + 1)
     going-out k out g =
         record {
-          so = λ G J st.
+          so = λ bs nodes G J st.
               let f : ℕ → Site → Site = concluding outcome (settingOf (G .program) room) in
-              stands-same G (below k m f J) (below (k + 1) m f J) bytes lengths work (g .so G J st)
+              stands-same G (below k m f J) (below (k + 1) m f J) bytes lengths work (g .so bs nodes G J st)
               (λ Q h. elim (ℕ-discrete Q k) [
                 | yes e ↦ rw e (below-own k m f J ∙ rw out)
                 | no d ↦ below-other k m f J Q d
@@ -173,28 +140,28 @@ module _ (bs : List ℕ) (nodes : ℕ) (outcome : Outcome) (m : PartySet) (n roo
     going-next : (a p : ℕ) → n ≤ maxParties → a ≤ n → p ≡ nextFrom a m → Going bytes lengths work a → GoingAt bytes lengths work p
     going-next a p few h q g = rw q (loop-next (Going bytes lengths work) m n few going-out a h g)
 
-    pub going-more : (k : ℕ) (bytes′ lengths′ work′ : List ℕ) (p : ℕ) → n ≤ maxParties → k < n → GoingAt bytes′ lengths′ work′ k → ConcludesOne bs nodes outcome k room bytes′ lengths′ work′ bytes lengths work
+    pub going-more : (k : ℕ) (bytes′ lengths′ work′ : List ℕ) (p : ℕ) → n ≤ maxParties → k < n → GoingAt bytes′ lengths′ work′ k → ConcludesOne outcome k room bytes′ lengths′ work′ bytes lengths work
         → p ≡ nextFrom (k + 1) m → GoingAt bytes lengths work p
     going-more k bytes′ lengths′ work′ p few h l c q =
         going-next (k + 1) p few (omega arith) q
         record {
-          so = λ G J st.
+          so = λ bs nodes G J st.
               let f : ℕ → Site → Site = concluding outcome (settingOf (G .program) room) in
-              c .comes n G (below k m f J) (below (k + 1) m f J) h (loop-here (Going bytes′ lengths′ work′) m n k h l .so G J st)
+              c .comes bs nodes n G (below k m f J) (below (k + 1) m f J) h (loop-here (Going bytes′ lengths′ work′) m n k h l .so bs nodes G J st)
               (below-own k m f J ∙ rw (l .inside h)) (below-other k m f J);
         }
 
-    pub going-all : (p : ℕ) → n ≤ p → GoingAt bytes lengths work p → ConcludesAll bs nodes outcome m n room bytes₀ lengths₀ work₀ bytes lengths work
+    pub going-all : (p : ℕ) → n ≤ p → GoingAt bytes lengths work p → ConcludesAll outcome m n room bytes₀ lengths₀ work₀ bytes lengths work
     unfolding below putAll
     going-all p h l =
         record {
-          comes = λ G J st.
+          comes = λ bs nodes G J st.
               let f : ℕ → Site → Site = concluding outcome (settingOf (G .program) room) in
-              stands-same G (below n m f J) (putAll m f J) bytes lengths work (loop-over (Going bytes lengths work) m n p h l .so G J st) (λ Q h. rw (lt-ltb Q n h));
+              stands-same G (below n m f J) (putAll m f J) bytes lengths work (loop-over (Going bytes lengths work) m n p h l .so bs nodes G J st) (λ Q h. rw (lt-ltb Q n h));
         }
 
   pub going-none : (p : ℕ) → n ≤ maxParties → p ≡ nextFrom 0 m → GoingAt bytes₀ lengths₀ work₀ p
   unfolding below
   going-none p few q =
       going-next bytes₀ lengths₀ work₀ 0 p few (omega arith) q
-      (record { so = λ G J st. stands-same G J (below 0 m (concluding outcome (settingOf (G .program) room)) J) bytes₀ lengths₀ work₀ st (λ Q h. rw (le-ltb Q 0 (omega arith))) })
+      (record { so = λ bs nodes G J st. stands-same G J (below 0 m (concluding outcome (settingOf (G .program) room)) J) bytes₀ lengths₀ work₀ st (λ Q h. rw (le-ltb Q 0 (omega arith))) })

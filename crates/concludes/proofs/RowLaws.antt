@@ -5,7 +5,7 @@ use Prim.Native.Nat.{ℕ, _+_, _-_, _*_, _≤_, _<_}
 use native.Mathlib.Decide.{decLt}
 use native.Mathlib.Omega.{arith}
 use lib.ListN.{length, take, drop, length-drop, take-append-drop}
-use lib.Seq.{sets, length-sets, length-take-le}
+use lib.Seq.{sets, length-take-le}
 use Rattle.invariants.proofs.RowLaws.{rows, stored, part-before, part-after}
 use Rattle.area.proofs.MoveLaws.{part-back}
 use Rattle.meets.specs.Places.{row}
@@ -41,6 +41,3 @@ module _ (size P : ℕ) (xs ys : List ℕ) (len : length ys ≡ size) (long : P 
             let s : P < Q = omega arith in
             part-after ys xs (Q * size) (Q * size + size - Q * size) (P * size) (omega (arith, rows P Q size s))
       ])
-
-  pub back-length : length (back size P xs ys) ≡ length xs
-  back-length = rw back-sets (length-sets xs (P * size) ys)

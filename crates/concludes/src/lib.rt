@@ -8,20 +8,18 @@ use area::stand::AREA;
 use area::stand::Stand;
 use limits::Party;
 use parties::sets::PartySet;
+use rules::effects::Meeting;
 use seats::Seat;
-use site::own::Invitation;
 
 pub enum Outcome {
-    // the number that the meeting was about
-    Joins(i32),
+    // the meeting, and the number that it was about
+    Joins(Meeting, i32),
     // the members disagree
     Parts,
 }
 
-// The part of site p, on its own record and area; how many bytes of the record are then used.
+// The part of site p, which is at the meeting, on its own record and area; how many bytes of the record are then used.
 fn take_part(
-    program: &[u8],
-    nodes: usize,
     outcome: Outcome,
     t: Stand,
     p: Party,
@@ -30,23 +28,17 @@ fn take_part(
     area: &mut [u8],
 ) -> usize
     requires { ⌜ (t .depth .frames ≤ maxFrames) × (areaSize ≤ length (now area)) ⌝ }
-    ensures { λ u. ⌜ TakesPart (now (program .entry)) nodes outcome t p used (now (bytes .entry)) (now (area .entry)) u (now (bytes .exit)) (now (area .exit)) ⌝ }
+    ensures { λ u. ⌜ TakesPart outcome t p used (now (bytes .entry)) (now (area .entry)) u (now (bytes .exit)) (now (area .exit)) ⌝ }
 {
     let node = t.node;
-    let Outcome::Joins(number) = outcome else {
-        return acts::stop(refusals::DISAGREEMENT, node, used, bytes, area);
-    };
-    let Invitation::To(mt, _) = site::own::invited(program, nodes, p, t, bytes.len(), used, area)
-    else {
-        return used;
-    };
-    acts::join(mt, number, t, p, used, bytes, area)
+    match outcome {
+        Outcome::Joins(mt, number) => acts::join(mt, number, t, p, used, bytes, area),
+        Outcome::Parts => acts::stop(refusals::DISAGREEMENT, node, used, bytes, area),
+    }
 }
 
 // The member p does its part, if it runs.
 fn conclude_one(
-    program: &[u8],
-    nodes: usize,
     outcome: Outcome,
     p: u8,
     room: usize,
@@ -55,7 +47,7 @@ fn conclude_one(
     work: &mut [u8],
 )
     requires { ⌜ (p * room + room ≤ length (now bytes)) × (p < length (now lengths)) × (p * areaSize + areaSize ≤ length (now work)) ⌝ }
-    ensures { λ _. ⌜ ConcludesOne (now (program .entry)) nodes outcome p room (now (bytes .entry)) (now (lengths .entry)) (now (work .entry)) (now (bytes .exit)) (now (lengths .exit)) (now (work .exit)) ⌝ }
+    ensures { λ _. ⌜ ConcludesOne outcome p room (now (bytes .entry)) (now (lengths .entry)) (now (work .entry)) (now (bytes .exit)) (now (lengths .exit)) (now (work .exit)) ⌝ }
 {
     let i = p as usize;
     let party = Party { index: p };
@@ -68,8 +60,6 @@ fn conclude_one(
     let end = start + room;
     let used = lengths[i];
     lengths[i] = take_part(
-        program,
-        nodes,
         outcome,
         t,
         party,
@@ -81,8 +71,6 @@ fn conclude_one(
 
 // Each member of m does its part.
 pub fn conclude(
-    program: &[u8],
-    nodes: usize,
     outcome: Outcome,
     m: PartySet,
     n: u8,
@@ -92,11 +80,11 @@ pub fn conclude(
     work: &mut [u8],
 )
     requires { ⌜ (n ≤ maxParties) × (n * room ≤ length (now bytes)) × (n ≤ length (now lengths)) × (n * areaSize ≤ length (now work)) ⌝ }
-    ensures { λ _. ⌜ ConcludesAll (now (program .entry)) nodes outcome m n room (now (bytes .entry)) (now (lengths .entry)) (now (work .entry)) (now (bytes .exit)) (now (lengths .exit)) (now (work .exit)) ⌝ }
+    ensures { λ _. ⌜ ConcludesAll outcome m n room (now (bytes .entry)) (now (lengths .entry)) (now (work .entry)) (now (bytes .exit)) (now (lengths .exit)) (now (work .exit)) ⌝ }
 {
     let mut p = m.next(0);
     while p < n {
-        conclude_one(program, nodes, outcome, p, room, bytes, lengths, work);
+        conclude_one(outcome, p, room, bytes, lengths, work);
         p = m.next(p + 1);
     }
 }

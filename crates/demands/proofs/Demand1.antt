@@ -2,30 +2,27 @@
 use Prim.Native.Nat.{ℕ}
 use mathlib.Core.Path.{_≡_, refl, sym, ap, _∙_}
 use mathlib.Core.Bool.{Bool, true, false, cond}
-use mathlib.Core.List.{List}
-use mathlib.Core.Option.{Option, none, some}
-use native.Mathlib.Omega.{arith}
 use denote.Ref.{RefT}
-use Rattle.program.specs.Check.{Checked, good, bad, checked}
 use Rattle.program.specs.Answer.{CheckAnswer, accepted, refused}
 use Rattle.program.specs.Answer as Check
 use Rattle.program.specs.declared.check.Verdict.{Verdict}
 use Rattle.program.specs.declared.check.Verdict.the-variants as Verdict′
-use Rattle.refusals.specs.Numbers.{badCounts, tooLittleLent}
 use Rattle.walk.specs.Walk.{StepAnswer, event, end}
 use Rattle.walk.specs.Walk as Walk
 use Rattle.order.specs.Order.{Continues}
 use Rattle.walk.specs.declared.Step.{Step}
 use Rattle.walk.specs.declared.Step.the-variants as Step′
 use Rattle.reader.specs.declared.Reader.{Reader}
-use Rattle.rules.specs.Lent.{Lent, Left, unchanged, inputsOf, countsFit, enoughLent, leftBy}
-use Rattle.rules.specs.Single.{Single, going, ended, stopped, after}
-use Rattle.rules.specs.Joint.{Turned, runTurns, startAll, allFinished}
-use Rattle.rules.specs.Calls.{SingleAnswer, JointAnswer, singleLeft, singleOf, singleCall, settingOf, badTurnFrom, jointLeft, unlessBadTurn, jointOf, jointCall}
+use Rattle.rules.specs.Lent.{Lent, Left, unchanged, leftBy}
+use Rattle.rules.specs.Single.{Single, going, ended, stopped}
+use Rattle.rules.specs.Joint.{Turned, allFinished}
+use Rattle.rules.specs.Calls.{SingleAnswer, JointAnswer, singleLeft, singleCall, jointLeft, jointCall}
 use Rattle.single.proofs.OneAnswer as Single
 use Rattle.joint.proofs.OneAnswer as Joint
 use Rattle.invariants.specs.Accepted.{IsSingleRun, IsJointRun}
 use Rattle.demands.specs.Demand1.{Untouched, Demand1}
+use Rattle.demands.proofs.CallCases.{single-cases, joint-cases}
+use Rattle.demands.proofs.Stops.{single-number, joint-number}
 
 -- no two answers say the same
 untold-check : CheckAnswer → Verdict
@@ -64,19 +61,6 @@ single-runs n L (going t c b) = tt
 single-runs n L (ended t v b) = tt
 single-runs n L (stopped t refusal e b) = tt
 
-single-refused : (L : Lent) (budget : ℕ) (c : Checked) → (IsSingleRun (singleOf L budget c .answer) → ⊥) → Untouched L (singleOf L budget c)
-unfolding singleOf
-single-refused L budget (bad place) h = untouched L _
-single-refused L budget (good p) h = go (countsFit (p .parties) L) (enoughLent (p .parties) 1 L) h
-  where
-    run : Left SingleAnswer
-    run = singleLeft (p .parties) L (after (settingOf p L) (inputsOf L) budget)
-
-    go : (t u : Bool) → (IsSingleRun (cond t (cond u run (unchanged L (SingleAnswer.refused tooLittleLent 0))) (unchanged L (SingleAnswer.refused badCounts 0)) .answer) → ⊥) → Untouched L (cond t (cond u run (unchanged L (SingleAnswer.refused tooLittleLent 0))) (unchanged L (SingleAnswer.refused badCounts 0)))
-    go true true h = absurd (h (single-runs (p .parties) L _))
-    go true false h = untouched L _
-    go false u h = untouched L _
-
 joint-runs : (n : ℕ) (L : Lent) (t : Turned) → IsJointRun (jointLeft n L t .answer)
 unfolding jointLeft leftBy
 joint-runs n L t = go (allFinished n (t .sites))
@@ -85,23 +69,7 @@ joint-runs n L t = go (allFinished n (t .sites))
     go true = tt
     go false = tt
 
-joint-refused : (L : Lent) (ts : List ℕ) (c : Checked) → (IsJointRun (jointOf L ts c .answer) → ⊥) → Untouched L (jointOf L ts c)
-unfolding jointOf
-joint-refused L ts (bad place) h = untouched L _
-joint-refused L ts (good p) h = go (countsFit (p .parties) L) (badTurnFrom (p .parties) 0 ts) (enoughLent (p .parties) (p .parties) L) h
-  where
-    run : Left JointAnswer
-    run = jointLeft (p .parties) L (runTurns (settingOf p L) ts (startAll (settingOf p L) (inputsOf L)))
-
-    go : (t : Bool) (o : Option ℕ) (u : Bool) → (IsJointRun (cond t (unlessBadTurn L o (cond u run (unchanged L (JointAnswer.refused tooLittleLent 0)))) (unchanged L (JointAnswer.refused badCounts 0)) .answer) → ⊥)
-        → Untouched L (cond t (unlessBadTurn L o (cond u run (unchanged L (JointAnswer.refused tooLittleLent 0)))) (unchanged L (JointAnswer.refused badCounts 0)))
-    go true none true h = absurd (h (joint-runs (p .parties) L _))
-    go true none false h = untouched L _
-    go true (some i) u h = untouched L _
-    go false o u h = untouched L _
-
 pub demand-1 : Demand1
-unfolding singleCall jointCall
 demand-1 =
     record {
       check = λ bs r r′ e e′. sym (check-back r) ∙ ap untold-check (e ∙ sym e′) ∙ check-back r′;
@@ -111,7 +79,13 @@ demand-1 =
       order = λ xs ys r r′ e e′. e ∙ sym e′;
       continuation = λ a b r r′ k k′. (k .bytes ∙ sym (k′ .bytes), k .place ∙ sym (k′ .place));
       single = λ L budget. Single.one-answer (singleCall L budget);
-      single-refused = λ L budget. single-refused L budget (checked (L .program));
+      single-refused = λ L budget.
+          single-cases L budget (λ (X : Left SingleAnswer). (IsSingleRun (X .answer) → ⊥) → Untouched L X) (λ number place k h. untouched L _)
+          (λ p h. absurd (h (single-runs (p .parties) L _)));
       joint = λ L ts. Joint.one-answer (jointCall L ts);
-      joint-refused = λ L ts. joint-refused L ts (checked (L .program));
+      joint-refused = λ L ts.
+          joint-cases L ts (λ (X : Left JointAnswer). (IsJointRun (X .answer) → ⊥) → Untouched L X) (λ number place k h. untouched L _)
+          (λ p h. absurd (h (joint-runs (p .parties) L _)));
+      single-number = single-number;
+      joint-number = joint-number;
     }

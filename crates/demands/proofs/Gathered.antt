@@ -1,33 +1,29 @@
 -- What the members of a set bring together, where each brings its part of one secret: all of it, and all agree. Assumes nothing.
 use Prim.Native.Nat.{ℕ, zero, suc, _<_}
-use mathlib.Core.Path.{_≡_, refl}
-use mathlib.Core.Bool.{Bool, true, false, cond, false≢true, and-eq-true-iff}
+use mathlib.Core.Path.{_≡_, refl, ap}
+use mathlib.Core.Bool.{Bool, true, false, cond}
 use native.Mathlib.Nat.{le-refl, not-suc-le-zero}
 use native.Mathlib.Omega.{arith}
-use borrow.Author.Tests.{eqb-true, eq-eqb}
-use lib.Dec.{eqb}
+use borrow.Author.Tests.{eq-eqb}
 use lib.IntN.{ℤ, pos, negsuc}
 use Rattle.numbers.specs.Integers.{sameInteger}
-use Rattle.parties.specs.Sets.{member, sameSet}
-use Rattle.parties.specs.SetLaws.{same-set, same-self}
+use Rattle.parties.specs.Sets.{member}
+use Rattle.parties.specs.SetLaws.{same-self}
 use Rattle.parties.specs.declared.sets.PartySet.{PartySet}
 use Rattle.program.specs.Check.{nodeAt}
-use Rattle.rules.specs.Rules.{rule}
 use Rattle.rules.specs.Moves.{Control}
 use Rattle.rules.specs.Books.{Book}
 use Rattle.rules.specs.Single.{Setting}
-use Rattle.rules.specs.Joint.{running, attends, performOwn, site, own, Sites, Attendance, away, there, attendance, isThere, orElse, brought, agrees, allAgree, joins, putAll, counted, concluded}
+use Rattle.rules.specs.Joint.{attends, own, Sites, Attendance, there, orElse, brought, agrees, allAgree, joins, putAll, counted, concluded}
 use Rattle.rules.specs.declared.effects.Meeting.{Meeting}
 use Rattle.rules.specs.declared.effects.Meeting.the-variants.{Sharing, Revealing}
 use Rattle.rules.specs.declared.effects.Offer.{Offer}
 use Rattle.rules.specs.declared.effects.Offer.the-variants.{Empty, Secret}
-use Rattle.rules.specs.declared.effects.Effect.{Effect}
-use Rattle.rules.specs.declared.effects.Effect.the-variants.{Refuse, Goes, Reads, Writes, Meets}
 use Rattle.invariants.proofs.AllOfLaws.{all-by}
-use Rattle.demands.specs.Rounds.{isJoint}
+use Rattle.invariants.proofs.AttendsLaws.{attends-at}
+use Rattle.demands.specs.Rounds.{isMeeting, isJoint}
 use Rattle.demands.proofs.Brought.{bring}
 use Rattle.demands.proofs.Tally.{lower}
-use Rattle.demands.proofs.Fits.{Fits, rule-fits}
 
 -- the secret is brought, where one of its holders is there
 pub brought-by : (n : ℕ) (m : PartySet) (f : ℕ → Attendance) (i : ℤ) (h : PartySet) → ((X : ℕ) → X < n → member X m ≡ true → f X ≡ there (bring X i h))
@@ -66,28 +62,6 @@ pub concluded-by : (S : Setting) (m : PartySet) (mt : Meeting) (i : ℤ) (h : Pa
 unfolding concluded
 concluded-by S m mt i h f J b = rw (agree-by mt (S .program .parties) m i h f b)
 
--- ---- a site that is there
-
-stands : (t : Bool) (a : Attendance) → isThere (cond t a away) ≡ true → t ≡ true
-stands true a e = refl
-stands false a e = absurd (false≢true e)
-
--- it stands at that node, in that mode
-pub there-same : (S : Setting) (e : ℕ) (m : PartySet) (X : ℕ) (c : Control) (b : Book) → isThere (attendance S e m X (running c b)) ≡ true → (c .node ≡ e) × (c .mode ≡ m)
-unfolding attendance
-there-same S e m X c b r =
-    let both = and-eq-true-iff (eqb (c .node) e) (sameSet (c .mode) m) .0 (stands _ _ r) in
-    (eqb-true (c .node) e (both .0), same-set (c .mode) m (both .1))
-
 -- a site attends only at a joint node
 pub attends-joint : (S : Setting) (P : ℕ) (c : Control) (b : Book) (mt : Meeting) (o : Offer) → own S P c b ≡ attends mt o → isJoint (nodeAt (S .program) (c .node)) ≡ true
-unfolding own performOwn
-attends-joint S P c b mt o w = go (isJoint (nodeAt (S .program) (c .node))) (rule (site P) (nodeAt (S .program) (c .node)) (c .mode) (c .names)) (rule-fits (site P) (nodeAt (S .program) (c .node)) (c .mode) (c .names)) w
-  where
-    go : (t : Bool) (e : Effect) → Fits (site P) t (c .mode) e → performOwn S P c b e ≡ attends mt o → t ≡ true
-    go true e f q = refl
-    go false (Refuse k) f q = cc
-    go false (Goes mv) f q = cc
-    go false Reads f q = cc
-    go false (Writes i) f q = cc
-    go false (Meets mt′ y) f q = absurd f
+attends-joint S P c b mt o w = ap isMeeting (attends-at S P c b mt o w)

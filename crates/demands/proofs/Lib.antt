@@ -1,7 +1,9 @@
-pub mod Demand1
 pub mod Sliced
 pub mod Quiet
 pub mod Brought
+pub mod CallCases
+pub mod Stops
+pub mod Demand1
 pub mod Fits
 pub mod Seen
 pub mod SeenStep

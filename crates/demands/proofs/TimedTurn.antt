@@ -35,7 +35,8 @@ use Rattle.demands.proofs.Inside.{Inside}
 use Rattle.demands.proofs.Times.{after-one-more, fine, nested}
 use Rattle.demands.proofs.Tally.{charged, total, sum-same, how-many-one, charged-as, charged-once}
 use Rattle.demands.proofs.Timed.{Timed, Onward, onward}
-use Rattle.demands.proofs.Gathered.{brought-by, concluded-by, there-same, attends-joint}
+use Rattle.invariants.proofs.AttendsLaws.{there-same}
+use Rattle.demands.proofs.Gathered.{brought-by, concluded-by, attends-joint}
 
 between : {t u : ℕ} → (u < t → u < u) → (t < u → t < t) → u ≡ t
 between {t} {u} f g = go (decLt u t) (decLt t u)

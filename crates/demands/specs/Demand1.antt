@@ -2,7 +2,7 @@
 -- call changes no lent byte; every run ends." No public call has a `requires`, and each has an `ensures` that is one equation with a total
 -- function; that a call ends is part of its proof. What is said here of those contracts: each allows one answer and one content of every
 -- lent slice, and a refused call leaves all as it was.
-use Prim.Native.Nat.{ℕ}
+use Prim.Native.Nat.{ℕ, _≤_}
 use mathlib.Core.Path.{_≡_}
 use mathlib.Core.List.{List}
 use denote.Ref.{RefT}
@@ -17,7 +17,8 @@ use Rattle.order.specs.declared.Order.{Order}
 use Rattle.reader.specs.Next.{placeAfter}
 use Rattle.reader.specs.declared.Reader.{Reader}
 use Rattle.rules.specs.Lent.{Lent, Left}
-use Rattle.rules.specs.Calls.{singleCall, jointCall}
+use Rattle.refusals.specs.Numbers.{badProgram, tooLittleLent, nameUnbound, tooDeep}
+use Rattle.rules.specs.Calls.{singleCall, jointCall, SingleAnswer, stoppedAt, endedAfter, budgetUsed, JointAnswer, complete, stillOpen}
 use Rattle.single.specs.Runs as Single
 use Rattle.single.specs.declared.runs.Answer as Single′
 use Rattle.joint.specs.Runs as Joint
@@ -29,6 +30,25 @@ pub record Untouched {A : Type 0} (L : Lent) (X : Left A) : Type 0 where
   pub records : X .records ≡ L .records
   pub lengths : X .lengths ≡ L .lengths
   pub work : X .work ≡ L .work
+
+-- "5 to 10 stop the single run"
+abbrev pub StopNumber : ℕ → Type 0
+StopNumber number = (nameUnbound ≤ number) × (number ≤ tooDeep)
+
+-- "1 to 4 refuse the call"
+abbrev pub RefusalNumber : ℕ → Type 0
+RefusalNumber number = (badProgram ≤ number) × (number ≤ tooLittleLent)
+
+abbrev pub SingleNumber : SingleAnswer → Type 0
+SingleNumber (SingleAnswer.refused number place) = RefusalNumber number
+SingleNumber (stoppedAt number node steps) = StopNumber number
+SingleNumber (endedAfter steps) = Unit {0}
+SingleNumber (budgetUsed steps) = Unit {0}
+
+abbrev pub JointNumber : JointAnswer → Type 0
+JointNumber (JointAnswer.refused number place) = RefusalNumber number
+JointNumber (complete turns) = Unit {0}
+JointNumber (stillOpen turns) = Unit {0}
 
 pub record Demand1 : Type 0 where
   -- program::check::check
@@ -52,3 +72,6 @@ pub record Demand1 : Type 0 where
       → Joint.Is (jointCall L ts) a rs ls w → Joint.Is (jointCall L ts) a′ rs′ ls′ w′
       → (a ≡ a′) × (rs ≡ rs′) × (ls ≡ ls′) × (w ≡ w′)
   pub joint-refused : (L : Lent) (ts : List ℕ) → (IsJointRun (jointCall L ts .answer) → ⊥) → Untouched L (jointCall L ts)
+  -- a refusal has one of its numbers, and so has a stop of the single run
+  pub single-number : (L : Lent) (budget : ℕ) → SingleNumber (singleCall L budget .answer)
+  pub joint-number : (L : Lent) (ts : List ℕ) → JointNumber (jointCall L ts .answer)

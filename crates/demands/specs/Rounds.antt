@@ -2,12 +2,14 @@
 use Prim.Native.Nat.{ℕ, zero, suc, _+_, _<_}
 use mathlib.Core.Bool.{Bool, true, false, cond}
 use mathlib.Core.List.{List, [], _∷_, _++_, List·Memᴰ}
+use mathlib.Core.Option.{Option, none, some}
 use lib.IntN.{ℤ}
 use Rattle.parties.specs.Sets.{member}
 use Rattle.program.specs.Check.{nodeAt}
 use Rattle.nodes.specs.declared.Node.{Node}
-use Rattle.nodes.specs.declared.Node.the-variants.{VAR, INT, OP, MUX, READ, WRITE, EMBED, SHARE, REVEAL, LET, CASE, PAR, CALL}
+use Rattle.rules.specs.Rules.{jointMeeting}
 use Rattle.rules.specs.Single.{Setting, Single, going, ended, stopped, after}
+use Rattle.rules.specs.declared.effects.Meeting.{Meeting}
 
 -- every turn is a party's
 abbrev pub Below : ℕ → List ℕ → Type 0
@@ -25,21 +27,13 @@ IsEnded (going t c b) = ⊥
 IsEnded (ended t v b) = Unit {0}
 IsEnded (stopped t refusal node b) = ⊥
 
+abbrev pub isMeeting : Option Meeting → Bool
+isMeeting none = false
+isMeeting (some mt) = true
+
 -- the nodes at which all of a mode step at once
 abbrev pub isJoint : Node → Bool
-isJoint (VAR x) = false
-isJoint (INT i) = false
-isJoint (OP o x y) = false
-isJoint (MUX x y z) = false
-isJoint READ = false
-isJoint (WRITE x) = false
-isJoint (EMBED x) = false
-isJoint (SHARE a q x) = true
-isJoint (REVEAL q x) = true
-isJoint (LET x e1 e2) = false
-isJoint (CASE x e1 e2) = false
-isJoint (PAR p e) = false
-isJoint (CALL f x) = false
+isJoint e = isMeeting (jointMeeting e)
 
 -- whether party P takes part in the next step of the single run, and whether that step is a joint one
 abbrev pub active : ℕ → Single → Bool

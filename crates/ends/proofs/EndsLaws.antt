@@ -3,13 +3,14 @@ use mathlib.Core.Path.{_≡_, refl, sym, ap, _∙_}
 use mathlib.Core.Bool.{Bool, true, false, not, and-false}
 use mathlib.Core.List.{List, []}
 use mathlib.Core.Option.{none, some}
-use Prim.Native.Nat.{ℕ, zero, suc, _+_, _*_, _≤_, _<_}
+use Prim.Native.Nat.{ℕ, zero, suc, _+_, _-_, _*_, _≤_, _<_}
 use native.Mathlib.Decide.{decLt, ℕ-discrete}
 use native.Mathlib.Numerals.{add-one}
 use native.Mathlib.Omega.{arith}
 use borrow.Author.Tests.{lt-ltb, le-ltb, not-true, not-false}
 use lib.ListN.{length, getD, drop, drop-of-length-le}
 use lib.Seq.{drop-cons}
+use Rattle.stretches.specs.Stretches.{copied}
 use Rattle.limits.specs.Limits.{maxFrames}
 use Rattle.rules.specs.Books.{Book}
 use Rattle.rules.specs.Calls.{maxTurns, badTurnFrom}
@@ -24,10 +25,11 @@ use Rattle.area.specs.declared.stand.Stand.{Stand}
 use Rattle.seats.specs.declared.Seat.{Seat}
 use Rattle.seats.specs.declared.Seat.the-variants.{Running, Finished, Stopped}
 use Rattle.area.proofs.LevelLaws.{names-fresh}
+use Rattle.area.proofs.MoveLaws.{part-back}
 use Rattle.table.proofs.TableLaws.{places-kept}
 use Rattle.meets.specs.Places.{areaOf}
-use Rattle.concludes.proofs.RowLaws.{back, row-own, row-other}
-use Rattle.ends.specs.Ends.{finishedSeat, finishedAt, OpensOne, OpensAll, Finishes}
+use Rattle.concludes.proofs.RowLaws.{back, row-length, row-own, row-other}
+use Rattle.ends.specs.Ends.{finishedSeat, finishedAt, AllFirst, OpensOne, OpensAll, Finishes}
 
 -- ---- the turn list from an index on
 module _ (n : ℕ) (ts : List ℕ) (i : ℕ) where
@@ -64,20 +66,43 @@ opens bs nodes t w w′ few p s =
     }
 
 -- ---- the areas of all sites at the start
-module _ (bs : List ℕ) (nodes : ℕ) (t : Stand) (w : List ℕ) where
-  pub opens-none : OpensAll bs nodes t 0 w
-  opens-none = record { each = λ P h. absurd (let z : P < 0 = h in omega arith) }
-
-  -- the next one is opened in its place
-  pub opens-more : (k : ℕ) (ws : List ℕ) → length ws ≡ areaSize → k * areaSize + areaSize ≤ length w → OpensAll bs nodes t k w → OpensOne bs nodes t ws
-      → OpensAll bs nodes t (k + 1) (back areaSize k w ws)
-  opens-more k ws len long so-far one =
+module _ (w : List ℕ) where
+  pub first-one : AllFirst 1 w w
+  first-one =
       record {
-        each = λ P h. elim (ℕ-discrete P k) [
-          | yes e ↦ rw (e, row-own areaSize k w ws len long) one
-          | no d ↦ rw (row-other areaSize k w ws len long P d) (so-far .each P (omega arith))
-        ];
+        each = λ P h.
+            let e : P ≡ 0 = omega arith in
+            ap (λ (k : ℕ). areaOf k w) e;
       }
+
+  pub first-all : (k n : ℕ) (w′ : List ℕ) → n ≤ k → AllFirst k w w′ → AllFirst n w w′
+  first-all k n w′ h a = record { each = λ P l. a .each P (omega arith) }
+
+  -- the first is copied to the place of the next
+  module _ (k : ℕ) (w′ : List ℕ) (first : 0 < k) (long : k * areaSize + areaSize ≤ length w′) where
+    copied-back : copied w′ 0 (k * areaSize) areaSize ≡ back areaSize k w′ (areaOf 0 w′)
+    unfolding copied
+    copied-back = sym (part-back (k * areaSize) (k * areaSize + areaSize - k * areaSize) w′ (areaOf 0 w′) (row-length areaSize 0 w′ (omega arith) ∙ omega arith) (omega arith))
+
+    pub first-more : AllFirst k w w′ → AllFirst (k + 1) w (copied w′ 0 (k * areaSize) areaSize)
+    first-more a =
+        let one : length (areaOf 0 w′) ≡ areaSize = row-length areaSize 0 w′ (omega arith) in
+        record {
+          each = λ P h.
+              rw copied-back
+              (elim (ℕ-discrete P k) [
+                | yes e ↦ rw (e, row-own areaSize k w′ (areaOf 0 w′) one long) (a .each 0 first)
+                | no d ↦ rw (row-other areaSize k w′ (areaOf 0 w′) one long P d) (a .each P (omega arith))
+              ]);
+        }
+
+module _ (bs : List ℕ) (nodes : ℕ) (t : Stand) where
+  pub opens-none : (n : ℕ) (w : List ℕ) → n ≡ 0 → OpensAll bs nodes t n w
+  opens-none n w e = record { each = λ P h. absurd (omega arith) }
+
+  -- the first was opened in its place, and the others are alike
+  pub opens-all : (n : ℕ) (w ws w′ : List ℕ) → length ws ≡ areaSize → areaSize ≤ length w → OpensOne bs nodes t ws → AllFirst n (back areaSize 0 w ws) w′ → OpensAll bs nodes t n w′
+  opens-all n w ws w′ len long one a = record { each = λ P h. rw (a .each P h, row-own areaSize 0 w ws len long) one }
 
 -- ---- whether all have finished
 seat-finished : (s : Seat) (w : List ℕ) (b : Book) → isFinished (seated s w b) ≡ finishedSeat s

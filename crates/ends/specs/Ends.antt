@@ -1,6 +1,6 @@
 -- The check of the turn list, the sites at the start, and whether all have finished, in the rules' terms.
 use mathlib.Core.Path.{_≡_}
-use Prim.Native.Nat.{ℕ, _≤_, _<_}
+use Prim.Native.Nat.{ℕ, _<_}
 use mathlib.Core.Bool.{Bool, true, false}
 use mathlib.Core.List.{List, []}
 use mathlib.Core.Option.{Option, none, some}
@@ -34,6 +34,10 @@ finishedAt w = finishedSeat (seatAt w)
 pub record OpensOne (bs : List ℕ) (nodes : ℕ) (t : Stand) (w : List ℕ) : Type 0 where
   pub places : PlacesIn bs nodes w
   pub site : t .depth .frames ≡ 0 → (b : Book) → running (record { node = t .node; mode = t .mode; names = noneBound; frames = [] }) b ≡ siteOf w b
+
+-- the areas of n sites, each as the first one was
+pub record AllFirst (n : ℕ) (w w′ : List ℕ) : Type 0 where
+  pub each : (P : ℕ) → P < n → areaOf P w′ ≡ areaOf 0 w
 
 -- the areas of n sites
 pub record OpensAll (bs : List ℕ) (nodes : ℕ) (t : Stand) (n : ℕ) (w : List ℕ) : Type 0 where

@@ -5,7 +5,7 @@ ghost use lib.ListN.{length};
 ghost use Rattle.limits.specs.Limits.{maxParties};
 ghost use Rattle.rules.specs.Calls.{badTurnFrom};
 ghost use Rattle.rules.specs.Lent.{areaSize};
-ghost use Rattle.ends.specs.Ends.{found, finishedAt, OpensOne, OpensAll, Finishes};
+ghost use Rattle.ends.specs.Ends.{found, finishedAt, AllFirst, OpensOne, OpensAll, Finishes};
 use area::stand::AREA;
 use area::stand::Stand;
 use seats::Seat;
@@ -45,18 +45,29 @@ fn open_one(program: &[u8], nodes: usize, start: Stand, area: &mut [u8])
     seats::save_seat(Seat::Running(start), area);
 }
 
-// The areas of n sites at the start.
+// The first site's area is copied to those of the n - 1 others.
+fn copy_first(n: u8, work: &mut [u8])
+    requires { ⌜ (n ≤ maxParties) × (n * areaSize ≤ length (now work)) ⌝ }
+    ensures { λ _. ⌜ AllFirst n (now (work .entry)) (now (work .exit)) ⌝ }
+{
+    let mut p: u8 = 1;
+    while p < n {
+        let to = (p as usize) * AREA;
+        stretches::copy_within(work, 0, to, AREA);
+        p += 1;
+    }
+}
+
+// The areas of n sites at the start. They are alike, so the table of places is made once.
 pub fn open_all(program: &[u8], nodes: usize, start: Stand, n: u8, work: &mut [u8])
     requires { ⌜ (nodes ≤ 1024) × (n ≤ maxParties) × (n * areaSize ≤ length (now work)) ⌝ }
     ensures { λ _. ⌜ OpensAll (now (program .entry)) nodes start n (now (work .exit)) ⌝ }
 {
-    let mut p: u8 = 0;
-    while p < n {
-        let from = (p as usize) * AREA;
-        let to = from + AREA;
-        open_one(program, nodes, start, &mut work[from..to]);
-        p += 1;
+    if n == 0 {
+        return;
     }
+    open_one(program, nodes, start, &mut work[..AREA]);
+    copy_first(n, work);
 }
 
 // All of n sites have finished.

@@ -2,6 +2,7 @@ pub mod BeginsLaws
 pub mod NameLaws
 pub mod Grows
 pub mod MeetingLaws
+pub mod AttendsLaws
 pub mod Passing
 pub mod KeepLaws
 pub mod AllOfLaws

@@ -16,7 +16,8 @@ use Rattle.rules.specs.Calls.{maxTurns, badTurnFrom}
 use Rattle.rules.specs.Joint.{Sites, Turned, turn, also, runTurns}
 use Rattle.rules.specs.Single.{Setting}
 use Rattle.meets.specs.Places.{settingOf, Given, Stands, InputsStand}
-use Rattle.sites.specs.Turns.{Turns, once}
+use Rattle.turn_steps.specs.Steps.{once}
+use Rattle.sites.specs.Turns.{Turns}
 use Rattle.joint.specs.Runs.{AllBelow, RunsTurns}
 
 -- ---- no turn is bad

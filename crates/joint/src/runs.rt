@@ -7,7 +7,7 @@ ghost use Rattle.program.specs.Answer.{accepted, checkAnswer};
 ghost use Rattle.rules.specs.Lent.{areaSize, sum};
 ghost use Rattle.rules.specs.Calls.{maxTurns, badTurnFrom, jointCall};
 ghost use mathlib.Core.Option.{none};
-ghost use Rattle.sites.specs.Turns.{once};
+ghost use Rattle.turn_steps.specs.Steps.{once};
 ghost use Rattle.joint.specs.Runs.{AllBelow, RunsTurns, Drives, Is};
 use area::stand::AREA;
 use area::stand::Stand;
@@ -53,7 +53,7 @@ fn run_turns(
     let mut count: u32 = 0;
     let mut j = 0;
     while j < turns.len() {
-        count += once(sites::turns::turn(
+        count += once(sites::turn(
             program,
             nodes,
             turns[j],

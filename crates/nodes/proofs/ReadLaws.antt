@@ -2,7 +2,7 @@
 use mathlib.Core.Path.{_≡_, refl, sym, ap, _∙_}
 use mathlib.Core.List.{List, [], _∷_}
 use Prim.Native.Nat.{ℕ, zero, suc, _+_, _-_, _*_, _≤_}
-use native.Mathlib.Nat.{add-assoc}
+use native.Mathlib.Nat.{add-assoc, add-zero}
 use native.Mathlib.Omega.{arith}
 use lib.ListN.{length, getD, drop, List·getD-eq-default}
 use lib.Seq.{getD-drop}
@@ -10,8 +10,10 @@ use Rattle.numbers.specs.Integers.{signed}
 use Rattle.numbers.specs.declared.integers.Operation.the-variants.{Lt}
 use Rattle.words.specs.Words.{numberAt, integerAt}
 use Rattle.words.proofs.WordLaws.{number-same}
-use Rattle.nodes.specs.Nodes.{nodeOf, nodeIn, operationOf}
-use Rattle.nodes.specs.declared.Node.the-variants.{READ}
+use Rattle.nodes.specs.Nodes.{nodeOf, nodeIn, nameIn, jointOf, operationOf}
+use Rattle.parties.specs.SetBytes.{setAt}
+use Rattle.nodes.specs.declared.Node.the-variants.{READ, SHARE, REVEAL}
+use Rattle.nodes.specs.declared.JointNode.the-variants.{Neither}
 use Rattle.nodes.specs.RangeLaws.{past, every, NoneOf}
 
 pub number-drop : (k a : ℕ) (p : List ℕ) (i : ℕ) → numberAt k (drop a p) i ≡ numberAt k p (a + i)
@@ -32,6 +34,16 @@ pub kind-is : {b : ℕ} (p : List ℕ) (at k : ℕ) → b ≡ getD p at 0 → b 
 unfolding nodeIn
 kind-is p at k e f = ap (λ (j : ℕ). nodeOf j (drop (at + 1) p)) (sym f ∙ e)
 
+-- the two nodes that `joint_node_at` reads too
+module _ {b : ℕ} (p : List ℕ) (at : ℕ) (kind : b ≡ getD p at 0) where
+  pub share-in : b ≡ 8 → SHARE (record { index = getD p (at + 1) 0 }) (setAt p (at + 1 + 1)) (nameIn p (at + 1 + 3)) ≡ nodeIn p at
+  unfolding nodeOf
+  share-in e = simp (getD-drop, number-drop, add-zero) at (kind-is p at 8 kind e)
+
+  pub reveal-in : b ≡ 9 → REVEAL (setAt p (at + 1)) (nameIn p (at + 1 + 2)) ≡ nodeIn p at
+  unfolding nodeOf
+  reveal-in e = simp (getD-drop, number-drop, add-zero) at (kind-is p at 9 kind e)
+
 -- the kinds that no arm of `node_at` has are READ's, or no node's
 abbrev Others : ℕ → Type 0
 Others k = NoneOf (13 ∷ 12 ∷ 11 ∷ 10 ∷ 9 ∷ 8 ∷ 7 ∷ 6 ∷ 4 ∷ 3 ∷ 2 ∷ 1 ∷ []) k
@@ -46,6 +58,15 @@ other-read k b =
     (every (λ (j : ℕ). Others (past 8 j) → READ ≡ nodeOf (past 8 j) b) 6
     (λ n. absurd (n .0 .0 .0 .0 .0 .1 refl), (λ n. absurd (n .0 .0 .0 .0 .1 refl), (λ n. absurd (n .0 .0 .0 .1 refl), (λ n. absurd (n .0 .0 .1 refl), (λ n. absurd (n .0 .1 refl), (λ n. absurd (n .1 refl), tt))))))
     (λ m n. refl)))
+    k
+
+-- and those that no arm of `joint_node_at` has are no joint node's
+pub other-neither : (k : ℕ) (b : List ℕ) → NoneOf (9 ∷ 8 ∷ []) k → Neither ≡ jointOf (nodeOf k b)
+unfolding nodeOf jointOf
+other-neither k b =
+    every (λ (j : ℕ). NoneOf (9 ∷ 8 ∷ []) j → Neither ≡ jointOf (nodeOf j b)) 14
+    (λ n. refl, (λ n. refl, (λ n. refl, (λ n. refl, (λ n. refl, (λ n. refl, (λ n. refl, (λ n. refl, (λ n. absurd (n .0 .1 refl), (λ n. absurd (n .1 refl), (λ n. refl, (λ n. refl, (λ n. refl, (λ n. refl, tt))))))))))))))
+    (λ m n. refl)
     k
 
 -- and those that no arm of `operation_of` has are lt's, or no operation's

@@ -12,6 +12,8 @@ use Rattle.limits.specs.declared.Name.{Name}
 use Rattle.limits.specs.declared.Party.{Party}
 use Rattle.nodes.specs.declared.Node.{Node}
 use Rattle.nodes.specs.declared.Node.the-variants.{VAR, INT, OP, MUX, READ, WRITE, EMBED, SHARE, REVEAL, LET, CASE, PAR, CALL}
+use Rattle.nodes.specs.declared.JointNode.{JointNode}
+use Rattle.nodes.specs.declared.JointNode.the-variants.{SHARE as SHARE′, REVEAL as REVEAL′, Neither}
 
 -- "All others are nodes": kinds 1 to 13
 abbrev pub isNodeKind : ℕ → Bool
@@ -53,3 +55,19 @@ nameIn p i = record { index = getD p i 0 }
 -- the node whose record starts at a place
 unfoldable pub nodeIn : List ℕ → ℕ → Node
 nodeIn p at = nodeOf (getD p at 0) (drop (at + 1) p)
+
+-- a node as whoever looks only for meetings sees it
+unfoldable pub jointOf : Node → JointNode
+jointOf (VAR x) = Neither
+jointOf (INT i) = Neither
+jointOf (OP o x y) = Neither
+jointOf (MUX x y z) = Neither
+jointOf READ = Neither
+jointOf (WRITE x) = Neither
+jointOf (EMBED x) = Neither
+jointOf (SHARE a q x) = SHARE′ a q x
+jointOf (REVEAL q x) = REVEAL′ q x
+jointOf (LET x e1 e2) = Neither
+jointOf (CASE x e1 e2) = Neither
+jointOf (PAR p e) = Neither
+jointOf (CALL f x) = Neither

@@ -5,7 +5,7 @@ ghost use Prim.Native.Nat.{_<_};
 ghost use lib.ListN.{getD};
 ghost use Rattle.words.specs.Words.{numberAt, integerAt};
 ghost use Rattle.parties.specs.SetBytes.{setAt};
-ghost use Rattle.nodes.specs.Nodes.{operationOf, nameIn, nodeIn};
+ghost use Rattle.nodes.specs.Nodes.{operationOf, nameIn, nodeIn, jointOf};
 use limits::Name;
 use limits::Party;
 use numbers::integers::Operation;
@@ -114,5 +114,27 @@ pub fn node_at(p: &[u8], at: usize) -> Node
         12 => Node::PAR(set_at(p, b), half(p, b + 2)),
         13 => Node::CALL(half(p, b), name_at(p, b + 2)),
         _ => Node::READ,
+    }
+}
+
+// A node as whoever looks only for meetings sees it: so small that it need not pass through memory, as a Node does.
+pub enum JointNode {
+    SHARE(Party, PartySet, Name),
+    REVEAL(PartySet, Name),
+    Neither,
+}
+
+pub fn joint_node_at(p: &[u8], at: usize) -> JointNode
+    requires { ⌜ at < 65536 ⌝ }
+    ensures { λ r. ⌜ r ≡ jointOf (nodeIn (now (p .entry)) at) ⌝ }
+{
+    let b = at + 1;
+    match byte(p, at) {
+        8 => {
+            let a = Party { index: byte(p, b) };
+            JointNode::SHARE(a, set_at(p, b + 1), name_at(p, b + 3))
+        }
+        9 => JointNode::REVEAL(set_at(p, b), name_at(p, b + 2)),
+        _ => JointNode::Neither,
     }
 }

@@ -6,5 +6,6 @@ pub mod Single
 pub mod Joint
 pub mod Lent
 pub mod Calls
+pub mod RuleLaws
 pub mod RunLaws
 pub mod Marked

@@ -4,6 +4,7 @@
 use Prim.Native.Nat.{ℕ}
 use mathlib.Core.Bool.{Bool, true, false, not, _&&_, cond, Bool·beq}
 use mathlib.Core.List.{List}
+use mathlib.Core.Option.{Option, none, some}
 use lib.Dec.{eqb}
 use lib.IntN.{ℤ, pos}
 use Rattle.numbers.specs.Integers.{operate, sameInteger}
@@ -133,3 +134,19 @@ withValues (unbound x) k = Refuse nameUnbound
 
 unfoldable pub rule : View → Node → PartySet → Names → Effect
 rule w e m b = withValues (lookAll m b (namesOf e)) λ vs. judge w e m vs
+
+-- the meeting that a node asks for, where it is a joint one
+abbrev pub jointMeeting : Node → Option Meeting
+jointMeeting (VAR x) = none
+jointMeeting (INT i) = none
+jointMeeting (OP o x y) = none
+jointMeeting (MUX x y z) = none
+jointMeeting READ = none
+jointMeeting (WRITE x) = none
+jointMeeting (EMBED x) = none
+jointMeeting (SHARE a q x) = some (Sharing a q)
+jointMeeting (REVEAL q x) = some (Revealing q)
+jointMeeting (LET x e1 e2) = none
+jointMeeting (CASE x e1 e2) = none
+jointMeeting (PAR p e) = none
+jointMeeting (CALL f x) = none

@@ -5,6 +5,7 @@ use mathlib.Core.List.{List}
 use mathlib.Core.Option.{none, some}
 use Prim.Native.Nat.{ℕ}
 use lib.IntN.{ℤ, pos}
+use lib.ListN.{take}
 use Rattle.limits.specs.Limits.{maxParties}
 use Rattle.parties.specs.Sets.{member}
 use Rattle.parties.specs.declared.sets.PartySet.{PartySet}
@@ -20,22 +21,22 @@ use Rattle.rules.specs.Moves.{move}
 use Rattle.rules.specs.Rules.{rule}
 use Rattle.rules.specs.declared.effects.View.the-variants.{Whole}
 use Rattle.rules.specs.declared.effects.Effect.{Effect}
-use Rattle.rules.specs.Single.{stopped, allOf, noteAll, arrive, settleAll, perform, step}
+use Rattle.rules.specs.Single.{Single, stopped, allOf, noteAll, arrive, settleAll, perform, step}
 use Rattle.rules.specs.declared.effects.Move.{Move}
-use Rattle.rules.specs.declared.effects.Move.the-variants.{Hand}
 use Rattle.rules.specs.declared.effects.Meeting.{Meeting}
 use Rattle.rules.specs.declared.effects.Offer.the-variants.{Empty, Secret}
-use Rattle.rules.specs.declared.effects.Effect.the-variants.{Refuse, Goes, Reads, Writes, Meets}
+use Rattle.rules.specs.declared.effects.Effect.the-variants.{Refuse, Goes, Writes, Meets}
 use Rattle.invariants.proofs.AllOfLaws.{all-by}
 use Rattle.invariants.proofs.BookLaws.{none-taken}
-use Rattle.area.specs.Levels.{controlOf, namesAt}
+use Rattle.area.specs.Levels.{tableSize, controlOf, namesAt}
 use Rattle.table.specs.Table.{PlacesIn, nodeBy}
 use Rattle.table.proofs.TableLaws.{node-by}
 use Rattle.area.specs.declared.stand.Stand.{Stand}
 use Rattle.inputs.specs.Inputs.{InputsHold}
-use Rattle.single_step.specs.Steps.{Lists, Given, Stands, Comes, Moved, Settles, ReadsIn, Performs, StepsOn}
+use Rattle.single_step.specs.Steps.{Lists, Given, Stands, Comes, DeepAfter, Moved, entered, EntryOf, Settles, StepsOn}
+use Rattle.single_step.specs.declared.Entry.{Entry}
+use Rattle.single_step.specs.declared.Entry.the-variants.{Stops, Notes}
 use Rattle.single_step.specs.declared.Stepped.{Stepped}
-use Rattle.single_step.specs.declared.Stepped.the-variants.{Stopped}
 use Rattle.ledger.proofs.RowLaws.{holds-same}
 use Rattle.inputs.proofs.InputLaws.{inputs-same}
 
@@ -79,23 +80,42 @@ write-free i = all-keep (Wrote i) (λ P b. refl)
 meeting-free : (mt : Meeting) (i : ℤ) (m : PartySet) (b : Books) (P : ℕ) → noteAll m (some (eventOf mt i)) b P .inputs ≡ b P .inputs
 meeting-free mt i = all-keep (eventOf mt i) (λ P b. none-taken P mt i b)
 
-module _ (room n : ℕ) (is : List ℤ) (end : List ℕ) (t : Stand) (l : Lists) where
-  pub refuses : (r : ℕ) → Performs room n is end (Refuse r) t (Stopped r) l l
-  unfolding perform controlOf
-  refuses r = record { comes = λ G ei ee p q k b st. (b, refl, st .holds); table = refl; deep = tt }
+-- ---- what each effect but a move and a READ comes to
 
-  pub empty-handed : (mt : Meeting) → Performs room n is end (Meets mt Empty) t (Stopped wrongValue) l l
-  unfolding perform controlOf
-  empty-handed mt = record { comes = λ G ei ee p q k b st. (b, refl, st .holds); table = refl; deep = tt }
+module _ (is : List ℤ) (end at : List ℕ) (m : PartySet) where
+  pub refuses : (r : ℕ) → EntryOf is end (Refuse r) m (Stops r) at at
+  unfolding perform
+  refuses r = record { comes = λ S k c b q h. refl; inputs = λ b h. h }
 
-  pub reads : (y : Stepped) (l′ : Lists) → ReadsIn room n is end t y l l′ → Performs room n is end Reads t y l l′
-  unfolding perform controlOf
-  reads y l′ r = record { comes = r .comes; table = r .table; deep = r .deep }
+  pub empty-handed : (mt : Meeting) → EntryOf is end (Meets mt Empty) m (Stops wrongValue) at at
+  unfolding perform
+  empty-handed mt = record { comes = λ S k c b q h. refl; inputs = λ b h. h }
 
-  pub goes : (mv : Move) (y : Stepped) (l′ : Lists) → l′ .at ≡ l .at → Moved room n mv t y (l .bytes) (l .lengths) (l .work) (l′ .bytes) (l′ .lengths) (l′ .work)
-      → Performs room n is end (Goes mv) t y l l′
+  -- an event other than a read is noted, and takes no input
+  still-to-come : (ev : Event) → ((m : PartySet) (b : Books) (P : ℕ) → noteAll m (some ev) b P .inputs ≡ b P .inputs) → (b : Books) → InputsHold maxParties is at end b
+      → InputsHold maxParties is at end (noteAll m (some ev) b)
+  still-to-come ev free b h = inputs-same maxParties is at end b (noteAll m (some ev) b) h (λ Q l. free m b Q)
+
+  pub writes : (i : ℤ) → EntryOf is end (Writes i) m (Notes (Wrote i) (Clear (pos 0) m)) at at
+  unfolding perform
+  writes i = record { comes = λ S k c b q h. rw q; inputs = still-to-come (Wrote i) (write-free i) }
+
+  pub meets : (mt : Meeting) (i : ℤ) (h : PartySet) → EntryOf is end (Meets mt (Secret i h)) m (Notes (eventOf mt i) (handed mt i)) at at
+  unfolding perform
+  meets mt i h = record { comes = λ S k c b q held. refl; inputs = still-to-come (eventOf mt i) (meeting-free mt i) }
+
+-- ---- an effect is done
+pub record Performs (room n : ℕ) (is : List ℤ) (end : List ℕ) (effect : Effect) (t : Stand) (y : Stepped) (l l′ : Lists) : Type 0 where
+  pub comes : (G : Given room n) → G .inputs ≡ is → G .end ≡ end → (p : Program) → p .parties ≡ n → (k : ℕ) (b : Books) → Stands G b l
+      → Comes y G k (t .node) (perform (record { program = p; room = room }) k (controlOf t (l .work)) b effect) l′
+  pub table : take tableSize (l′ .work) ≡ take tableSize (l .work)
+  pub deep : DeepAfter y
+
+module _ (room n : ℕ) (is : List ℤ) (end : List ℕ) (t : Stand) (y : Stepped) (l l′ : Lists) where
+  -- a move: nothing is noted
+  pub goes : (mv : Move) → l′ .at ≡ l .at → Moved room n mv t y (l .bytes) (l .lengths) (l .work) (l′ .bytes) (l′ .lengths) (l′ .work) → Performs room n is end (Goes mv) t y l l′
   unfolding perform controlOf settleAll
-  goes mv y l′ ea d =
+  goes mv ea d =
       record {
         comes = λ G ei ee p q k b st.
             subst (λ (z : Bool). Comes y G k (t .node) (cond z (arrive k (t .node) (move mv (controlOf t (l .work))) (noteAll (t .mode) none b)) (stopped k noRoom (t .node) b)) l′)
@@ -105,34 +125,17 @@ module _ (room n : ℕ) (is : List ℤ) (end : List ℕ) (t : Stand) (l : Lists)
         deep = d .deep;
       }
 
-  -- an event other than a read is noted, and takes no input
-  pub settles : (ev : Event) (mv : Move) (y : Stepped) (l′ : Lists) → ((m : PartySet) (b : Books) (P : ℕ) → noteAll m (some ev) b P .inputs ≡ b P .inputs) → l′ .at ≡ l .at
-      → Settles room n ev mv t y (l .bytes) (l .lengths) (l .work) (l′ .bytes) (l′ .lengths) (l′ .work)
-      → (G : Given room n) (p : Program) → p .parties ≡ n → (k : ℕ) (b : Books) → Stands G b l
-      → Comes y G k (t .node) (settleAll (record { program = p; room = room }) k (controlOf t (l .work)) b (some ev) mv) l′
-  settles ev mv y l′ free ea s G p q k b st =
-      s .comes G p q k b (l .at) (l′ .at) st
-      (subst (λ (x : List ℕ). InputsHold maxParties (G .inputs) x (G .end) (noteAll (t .mode) (some ev) b)) (sym ea)
-      (inputs-same maxParties (G .inputs) (l .at) (G .end) b (noteAll (t .mode) (some ev) b) (st .inputs) (λ Q h. free (t .mode) b Q)))
-
-  pub writes : (i : ℤ) (y : Stepped) (l′ : Lists) → l′ .at ≡ l .at
-      → Settles room n (Wrote i) (Hand (Clear (pos 0) (t .mode))) t y (l .bytes) (l .lengths) (l .work) (l′ .bytes) (l′ .lengths) (l′ .work)
-      → Performs room n is end (Writes i) t y l l′
-  unfolding perform controlOf
-  writes i y l′ ea s =
+  -- any other effect: its entry is made
+  pub enters : (effect : Effect) (entry : Entry) → EntryOf is end effect (t .mode) entry (l .at) (l′ .at)
+      → Settles room n entry t y (l .bytes) (l .lengths) (l .work) (l′ .bytes) (l′ .lengths) (l′ .work) → Performs room n is end effect t y l l′
+  unfolding controlOf
+  enters effect entry told s =
       record {
-        comes = λ G ei ee p q k b st. settles (Wrote i) (Hand (Clear (pos 0) (t .mode))) y l′ (λ m b P. write-free i m b P) ea s G p q k b st;
-        table = s .table;
-        deep = s .deep;
-      }
-
-  pub meets : (mt : Meeting) (i : ℤ) (h : PartySet) (y : Stepped) (l′ : Lists) → l′ .at ≡ l .at
-      → Settles room n (eventOf mt i) (Hand (handed mt i)) t y (l .bytes) (l .lengths) (l .work) (l′ .bytes) (l′ .lengths) (l′ .work)
-      → Performs room n is end (Meets mt (Secret i h)) t y l l′
-  unfolding perform controlOf
-  meets mt i h y l′ ea s =
-      record {
-        comes = λ G ei ee p q k b st. settles (eventOf mt i) (Hand (handed mt i)) y l′ (λ m b P. meeting-free mt i m b P) ea s G p q k b st;
+        comes = λ G ei ee p q k b st.
+            let held : InputsHold maxParties is (l .at) end b = rw (← ei, ← ee) (st .inputs) in
+            let left : InputsHold maxParties (G .inputs) (l′ .at) (G .end) (entered entry (t .mode) b) = rw (ei, ee) (told .inputs b held) in
+            subst (λ (z : Single). Comes y G k (t .node) z l′) (sym (told .comes (record { program = p; room = room }) k (controlOf t (l .work)) b refl held))
+            (s .comes G p q k b (l .at) (l′ .at) st left);
         table = s .table;
         deep = s .deep;
       }

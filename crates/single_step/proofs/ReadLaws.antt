@@ -1,5 +1,5 @@
 -- READ in the lent bytes: the one party of the mode takes its next input. Assumes nothing.
-use mathlib.Core.Path.{_≡_, refl, sym, ap, _∙_, subst}
+use mathlib.Core.Path.{_≡_, refl, ap, _∙_}
 use mathlib.Core.Bool.{Bool, true, false, cond}
 use mathlib.Core.List.{List, [], _∷_}
 use mathlib.Core.Option.{some}
@@ -16,15 +16,12 @@ use Rattle.values.specs.declared.value.Value.the-variants.{Clear}
 use Rattle.records.specs.declared.events.Event.the-variants.{Read}
 use Rattle.refusals.specs.Numbers.{noInput}
 use Rattle.rules.specs.Books.{Books, eventFor, add, note}
-use Rattle.rules.specs.Single.{noteAll, readAll}
-use Rattle.rules.specs.declared.effects.Move.the-variants.{Hand}
-use Rattle.area.specs.Levels.{controlOf}
-use Rattle.area.specs.declared.stand.Stand.{Stand}
+use Rattle.rules.specs.Single.{noteAll, readAll, perform}
+use Rattle.rules.specs.declared.effects.Effect.the-variants.{Reads}
 use Rattle.inputs.specs.Inputs.{InputsHold, headOf}
-use Rattle.single_step.specs.Steps.{Lists, Given, Stands, Comes, Settles, ReadsIn}
+use Rattle.single_step.specs.Steps.{EntryOf}
 use Rattle.inputs.specs.declared.Taken.the-variants.{Input, UsedUp}
-use Rattle.single_step.specs.declared.Stepped.{Stepped}
-use Rattle.single_step.specs.declared.Stepped.the-variants.{Stopped}
+use Rattle.single_step.specs.declared.Entry.the-variants.{Stops, Notes}
 use Rattle.inputs.proofs.InputLaws.{inputs-taken, head-none, head-some}
 
 -- ---- what the books have once the one party has noted that it read i
@@ -48,43 +45,27 @@ module _ (m : PartySet) (one : count m ≡ 1) (i : ℤ) (b : Books) where
       inputs-taken maxParties is at end b (noteAll m (some (Read i)) b) (lowest m) (lowest-one m one .1) l h i rest e
       (read-own ∙ ap (λ (x : List ℤ). drop 1 x) e) read-other
 
--- ---- the step
+-- ---- what the effect comes to
 
-module _ (room n : ℕ) (is : List ℤ) (end : List ℕ) (t : Stand) (l : Lists) (one : count (t .mode) ≡ 1) where
+module _ (is : List ℤ) (end at : List ℕ) (m : PartySet) (one : count m ≡ 1) (P : ℕ) (reader : P ≡ lowest m) where
   toRead : List ℤ
-  toRead = take (getD end (lowest (t .mode)) 0 - getD (l .at) (lowest (t .mode)) 0) (drop (getD (l .at) (lowest (t .mode)) 0) is)
+  toRead = take (getD end P 0 - getD at P 0) (drop (getD at P 0) is)
 
-  held-inputs : (G : Given room n) → G .inputs ≡ is → G .end ≡ end → (b : Books) → Stands G b l → b (lowest (t .mode)) .inputs ≡ toRead
+  held-inputs : (b : Books) → InputsHold maxParties is at end b → b (lowest m) .inputs ≡ toRead
   unfolding toRead
-  held-inputs G ei ee b st = st .inputs (lowest (t .mode)) (lowest-one (t .mode) one .1) ∙ rw (ei, ee)
+  held-inputs b h = rw reader (h (lowest m) (lowest-one m one .1))
 
-  pub read-none : headOf (take (getD end (lowest (t .mode)) 0 - getD (l .at) (lowest (t .mode)) 0) (drop (getD (l .at) (lowest (t .mode)) 0) is)) ≡ UsedUp
-      → ReadsIn room n is end t (Stopped noInput) l l
-  unfolding toRead readAll controlOf
-  read-none e =
-      record {
-        comes = λ G ei ee p q k b st. (b, rw (held-inputs G ei ee b st ∙ head-none toRead e), st .holds);
-        table = refl;
-        deep = tt;
-      }
+  pub read-none : headOf (take (getD end P 0 - getD at P 0) (drop (getD at P 0) is)) ≡ UsedUp → EntryOf is end Reads m (Stops noInput) at at
+  unfolding toRead perform readAll
+  read-none e = record { comes = λ S k c b q h. rw (q, held-inputs b h ∙ head-none toRead e); inputs = λ b h. h }
 
-  pub read-some : (i : ℤ) (y : Stepped) (l′ : Lists) → maxParties ≤ length (l .at)
-      → headOf (take (getD end (lowest (t .mode)) 0 - getD (l .at) (lowest (t .mode)) 0) (drop (getD (l .at) (lowest (t .mode)) 0) is)) ≡ Input i
-      → l′ .at ≡ set (l .at) (lowest (t .mode)) (getD (l .at) (lowest (t .mode)) 0 + 1)
-      → Settles room n (Read i) (Hand (Clear i (t .mode))) t y (l .bytes) (l .lengths) (l .work) (l′ .bytes) (l′ .lengths) (l′ .work)
-      → ReadsIn room n is end t y l l′
-  unfolding toRead readAll controlOf
-  read-some i y l′ long e ea s =
+  pub read-some : (i : ℤ) → maxParties ≤ length at → headOf (take (getD end P 0 - getD at P 0) (drop (getD at P 0) is)) ≡ Input i
+      → EntryOf is end Reads m (Notes (Read i) (Clear i m)) at (set at P (getD at P 0 + 1))
+  unfolding toRead perform readAll
+  read-some i long e =
       record {
-        comes = λ G ei ee p q k b st.
-            let has : b (lowest (t .mode)) .inputs ≡ i ∷ drop 1 toRead = held-inputs G ei ee b st ∙ head-some toRead i e in
-            let ins : InputsHold maxParties (G .inputs) (l′ .at) (G .end) (noteAll (t .mode) (some (Read i)) b)
-            = subst (λ (x : List ℕ). InputsHold maxParties (G .inputs) x (G .end) (noteAll (t .mode) (some (Read i)) b)) (sym ea)
-            (inputs-read (t .mode) one i b (G .inputs) (l .at) (G .end) (drop 1 toRead) long (st .inputs) has) in
-            subst (λ (x : List ℤ). Comes y G k (t .node) (readAll (record { program = p; room = room }) k (controlOf t (l .work)) b x) l′) (sym has)
-            (s .comes G p q k b (l .at) (l′ .at) st ins);
-        table = s .table;
-        deep = s .deep;
+        comes = λ S k c b q h. rw (q, held-inputs b h ∙ head-some toRead i e);
+        inputs = λ b h. rw reader (inputs-read m one i b is at end (drop 1 toRead) long h (held-inputs b h ∙ head-some toRead i e));
       }
 
 -- where there is an input, its place is one of the list

@@ -19,6 +19,7 @@ use Rattle.rules.specs.Moves.{move}
 use Rattle.rules.specs.Moves as Moves
 use Rattle.rules.specs.Single.{Single, stopped, allOf, noteAll, arrive, settleAll}
 use Rattle.rules.specs.declared.effects.Move.{Move}
+use Rattle.rules.specs.declared.effects.Move.the-variants.{Hand}
 use Rattle.area.specs.Levels.{controlOf, nextOf, Goes}
 use Rattle.area.specs.Levels as Levels
 use Rattle.area.specs.declared.stand.Stand.{Stand}
@@ -26,6 +27,7 @@ use Rattle.area.specs.declared.stand.Next.{Next}
 use Rattle.area.specs.declared.stand.Next.the-variants as Next′
 use Rattle.ledger.specs.Ledger.{Holds, roomsFor, NotesAll, FinishesAll}
 use Rattle.single_step.specs.Steps.{Comes, Arrives, Moved, Settles}
+use Rattle.single_step.specs.declared.Entry.the-variants.{Stops, Notes}
 use Rattle.single_step.specs.declared.Stepped.{Stepped}
 use Rattle.single_step.specs.declared.Stepped.the-variants.{On, Ended, Stopped}
 use Rattle.ledger.proofs.RowLaws.{holds-length}
@@ -77,18 +79,23 @@ rooms-are R n m ev b xs₀ ls₀ xs ls h holds =
     all-same n m (λ P. hasRoom R (used (b P)) (eventFor P ev)) (λ P. hasRoom R (getD ls P 0) (eventFor P ev))
     (λ P l. ap (λ (u : ℕ). hasRoom R u (eventFor P ev)) (sym (holds-length R n b b xs₀ ls₀ xs ls holds P l h)))
 
-module _ (room n : ℕ) (ev : Event) (mv : Move) (t : Stand) (xs ls w : List ℕ) where
-  settles-all : (p : Program) → p .parties ≡ n → (k : ℕ) (b : Books) (xs₀ ls₀ : List ℕ) → Holds room n b xs₀ ls₀ xs ls → n ≤ length ls₀ → (v : Bool) → roomsFor room n (t .mode) ev ls ≡ v
-      → settleAll (record { program = p; room = room }) k (controlOf t w) b (some ev) mv
-      ≡ cond v (arrive k (t .node) (move mv (controlOf t w)) (noteAll (t .mode) (some ev) b)) (stopped k noRoom (t .node) b)
+module _ (room n : ℕ) (t : Stand) (xs ls w : List ℕ) where
+  pub settled-refusal : (r : ℕ) → Settles room n (Stops r) t (Stopped r) xs ls w xs ls w
+  unfolding controlOf
+  settled-refusal r = record { comes = λ G p q k b at at′ st ins. (b, refl, st .holds); table = refl; deep = tt }
+
+module _ (room n : ℕ) (ev : Event) (v : Value) (t : Stand) (xs ls w : List ℕ) where
+  settles-all : (p : Program) → p .parties ≡ n → (k : ℕ) (b : Books) (xs₀ ls₀ : List ℕ) → Holds room n b xs₀ ls₀ xs ls → n ≤ length ls₀ → (has : Bool) → roomsFor room n (t .mode) ev ls ≡ has
+      → settleAll (record { program = p; room = room }) k (controlOf t w) b (some ev) (Hand v)
+      ≡ cond has (arrive k (t .node) (move (Hand v) (controlOf t w)) (noteAll (t .mode) (some ev) b)) (stopped k noRoom (t .node) b)
   unfolding settleAll controlOf
-  settles-all p q k b xs₀ ls₀ holds l v r =
-      ap (λ (z : Bool). cond z (arrive k (t .node) (move mv (controlOf t w)) (noteAll (t .mode) (some ev) b)) (stopped k noRoom (t .node) b))
+  settles-all p q k b xs₀ ls₀ holds l has r =
+      ap (λ (z : Bool). cond z (arrive k (t .node) (move (Hand v) (controlOf t w)) (noteAll (t .mode) (some ev) b)) (stopped k noRoom (t .node) b))
       (ap (λ (i : ℕ). allOf i (t .mode) (λ P. roomFor room P (some ev) (b P))) q ∙ rooms-are room n (t .mode) ev b xs₀ ls₀ xs ls l holds ∙ r)
 
-  -- every member has room: all note the event, and control moves
+  -- every member has room: all note the event, and the value is handed back
   pub settled-by : (y : Stepped) (xs₁ ls₁ xs′ ls′ w′ : List ℕ) → roomsFor room n (t .mode) ev ls ≡ true → NotesAll room n (t .mode) ev xs ls xs₁ ls₁
-      → Moved room n mv t y xs₁ ls₁ w xs′ ls′ w′ → Settles room n ev mv t y xs ls w xs′ ls′ w′
+      → Moved room n (Hand v) t y xs₁ ls₁ w xs′ ls′ w′ → Settles room n (Notes ev v) t y xs ls w xs′ ls′ w′
   settled-by y xs₁ ls₁ xs′ ls′ w′ r a d =
       record {
         comes = λ G p q k b at at′ st ins.
@@ -101,7 +108,7 @@ module _ (room n : ℕ) (ev : Event) (mv : Move) (t : Stand) (xs ls w : List ℕ
       }
 
   -- a member lacks room: nobody notes it, and the run stops
-  pub settled-not : roomsFor room n (t .mode) ev ls ≡ false → Settles room n ev mv t (Stopped noRoom) xs ls w xs ls w
+  pub settled-not : roomsFor room n (t .mode) ev ls ≡ false → Settles room n (Notes ev v) t (Stopped noRoom) xs ls w xs ls w
   settled-not r =
       record {
         comes = λ G p q k b at at′ st ins. (b, settles-all p q k b (G .bytes₀) (G .lengths₀) (st .holds) (G .places) false r, st .holds);

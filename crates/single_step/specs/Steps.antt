@@ -6,14 +6,14 @@ use mathlib.Core.Option.{some}
 use lib.IntN.{ℤ}
 use lib.ListN.{length, take}
 use Rattle.limits.specs.Limits.{maxParties, maxFrames}
-use Rattle.parties.specs.Sets.{lowest}
+use Rattle.parties.specs.declared.sets.PartySet.{PartySet}
 use Rattle.values.specs.declared.value.Value.{Value}
 use Rattle.program.specs.Check.{Program, good, checked}
-use Rattle.records.specs.declared.events.Event.{Event}
 use Rattle.rules.specs.Books.{Books}
-use Rattle.rules.specs.Moves.{move}
-use Rattle.rules.specs.Single.{Single, going, ended, stopped, noteAll, arrive, settleAll, readAll, perform, step}
+use Rattle.rules.specs.Moves.{Control, move}
+use Rattle.rules.specs.Single.{Setting, Single, going, ended, stopped, noteAll, arrive, settleAll, perform, step}
 use Rattle.rules.specs.declared.effects.Move.{Move}
+use Rattle.rules.specs.declared.effects.Move.the-variants.{Hand}
 use Rattle.rules.specs.declared.effects.Effect.{Effect}
 use Rattle.area.specs.Levels.{tableSize, controlOf, nextOf, DeepEnough}
 use Rattle.table.specs.Table.{PlacesIn}
@@ -21,6 +21,8 @@ use Rattle.area.specs.declared.stand.Stand.{Stand}
 use Rattle.area.specs.declared.stand.Next.{Next}
 use Rattle.ledger.specs.Ledger.{Holds, Fits}
 use Rattle.inputs.specs.Inputs.{InputsHold}
+use Rattle.single_step.specs.declared.Entry.{Entry}
+use Rattle.single_step.specs.declared.Entry.the-variants.{Stops, Notes}
 use Rattle.single_step.specs.declared.Stepped.{Stepped}
 use Rattle.single_step.specs.declared.Stepped.the-variants.{On, Ended, Stopped}
 
@@ -73,27 +75,28 @@ pub record Moved (room n : ℕ) (mv : Move) (t : Stand) (y : Stepped) (bytes len
   pub table : take tableSize work′ ≡ take tableSize work
   pub deep : DeepAfter y
 
--- each member notes an event, or nobody does, and control moves; `at′` has what the books then have as inputs
-pub record Settles (room n : ℕ) (ev : Event) (mv : Move) (t : Stand) (y : Stepped) (bytes lengths work bytes′ lengths′ work′ : List ℕ) : Type 0 where
+-- what an entry comes to: the run stops, or each member notes the event and the value is handed back
+abbrev pub enter : Setting → ℕ → Control → Books → Entry → Single
+enter S k c b (Stops refusal) = stopped k refusal (c .node) b
+enter S k c b (Notes ev v) = settleAll S k c b (some ev) (Hand v)
+
+-- the books once an entry is made
+abbrev pub entered : Entry → PartySet → Books → Books
+entered (Stops refusal) m b = b
+entered (Notes ev v) m b = noteAll m (some ev) b
+
+-- an effect comes to an entry, where the next inputs are those at `at`, and then those at `at′`
+pub record EntryOf (is : List ℤ) (end : List ℕ) (effect : Effect) (m : PartySet) (entry : Entry) (at at′ : List ℕ) : Type 0 where
+  pub comes : (S : Setting) (k : ℕ) (c : Control) (b : Books) → c .mode ≡ m → InputsHold maxParties is at end b → perform S k c b effect ≡ enter S k c b entry
+  pub inputs : (b : Books) → InputsHold maxParties is at end b → InputsHold maxParties is at′ end (entered entry m b)
+
+-- an entry is made, by each member or, where one lacks room, by nobody; `at′` has what the books then have as inputs
+pub record Settles (room n : ℕ) (entry : Entry) (t : Stand) (y : Stepped) (bytes lengths work bytes′ lengths′ work′ : List ℕ) : Type 0 where
   pub comes : (G : Given room n) (p : Program) → p .parties ≡ n → (k : ℕ) (b : Books) (at at′ : List ℕ)
       → Stands G b (record { bytes = bytes; lengths = lengths; work = work; at = at })
-      → InputsHold maxParties (G .inputs) at′ (G .end) (noteAll (t .mode) (some ev) b)
-      → Comes y G k (t .node) (settleAll (record { program = p; room = room }) k (controlOf t work) b (some ev) mv) (record { bytes = bytes′; lengths = lengths′; work = work′; at = at′ })
+      → InputsHold maxParties (G .inputs) at′ (G .end) (entered entry (t .mode) b)
+      → Comes y G k (t .node) (enter (record { program = p; room = room }) k (controlOf t work) b entry) (record { bytes = bytes′; lengths = lengths′; work = work′; at = at′ })
   pub table : take tableSize work′ ≡ take tableSize work
-  pub deep : DeepAfter y
-
--- the party of the mode reads its next input
-pub record ReadsIn (room n : ℕ) (is : List ℤ) (end : List ℕ) (t : Stand) (y : Stepped) (l l′ : Lists) : Type 0 where
-  pub comes : (G : Given room n) → G .inputs ≡ is → G .end ≡ end → (p : Program) → p .parties ≡ n → (k : ℕ) (b : Books) → Stands G b l
-      → Comes y G k (t .node) (readAll (record { program = p; room = room }) k (controlOf t (l .work)) b (b (lowest (t .mode)) .inputs)) l′
-  pub table : take tableSize (l′ .work) ≡ take tableSize (l .work)
-  pub deep : DeepAfter y
-
--- an effect is done
-pub record Performs (room n : ℕ) (is : List ℤ) (end : List ℕ) (effect : Effect) (t : Stand) (y : Stepped) (l l′ : Lists) : Type 0 where
-  pub comes : (G : Given room n) → G .inputs ≡ is → G .end ≡ end → (p : Program) → p .parties ≡ n → (k : ℕ) (b : Books) → Stands G b l
-      → Comes y G k (t .node) (perform (record { program = p; room = room }) k (controlOf t (l .work)) b effect) l′
-  pub table : take tableSize (l′ .work) ≡ take tableSize (l .work)
   pub deep : DeepAfter y
 
 -- one step of a good program's run

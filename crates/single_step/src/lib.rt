@@ -4,18 +4,17 @@ ghost use Prim.Native.Nat.{_*_, _≤_};
 ghost use lib.ListN.{length};
 ghost use Rattle.limits.specs.Limits.{maxParties, maxFrames};
 ghost use Rattle.parties.specs.Sets.{count};
-ghost use Rattle.rules.specs.Books.{handed, eventOf};
 ghost use Rattle.rules.specs.Lent.{areaSize};
-ghost use Rattle.single_step.specs.Steps.{Arrives, Moved, Settles, ReadsIn, Performs, StepsOn};
+ghost use Rattle.single_step.specs.Steps.{Arrives, Moved, EntryOf, Settles, StepsOn};
 ghost use Rattle.rules.specs.RunLaws.{Sound};
 ghost use Rattle.advance.specs.Advances.{Asked};
 use advance::Advanced;
 use area::stand::Next;
 use area::stand::Stand;
 use inputs::Taken;
+use parties::sets::PartySet;
 use records::events::Event;
 use rules::effects::Effect;
-use rules::effects::Meeting;
 use rules::effects::Move;
 use rules::effects::Offer;
 use rules::effects::View;
@@ -26,6 +25,14 @@ pub enum Stepped {
     Ended,
     // the refusal
     Stopped(u8),
+}
+
+// What an effect comes to.
+enum Entry {
+    // the refusal
+    Stops(u8),
+    // what each member of the mode notes, and what is handed back
+    Notes(Event, Value),
 }
 
 // Where a move has led: on, to the end, where every party writes kind 6, or to no place for a frame more.
@@ -60,10 +67,9 @@ fn hand_back(
     arrive(next, n, room, bytes, lengths)
 }
 
-// Each member of the mode notes the event and a value is handed back; where a member lacks room, nobody notes it and the run stops.
+// Each member of the mode notes the event and the value is handed back; where a member lacks room, nobody notes it and the run stops, as at a refusal.
 fn settled(
-    ev: Event,
-    v: Value,
+    entry: Entry,
     t: Stand,
     n: u8,
     room: usize,
@@ -72,102 +78,50 @@ fn settled(
     work: &mut [u8],
 ) -> Stepped
     requires { ⌜ (n ≤ maxParties) × (n * room ≤ length (now bytes)) × (n ≤ length (now lengths)) × (t .depth .frames ≤ maxFrames) × (areaSize ≤ length (now work)) ⌝ }
-    ensures { λ y. ⌜ Settles room n ev (Move.Hand v) t y (now (bytes .entry)) (now (lengths .entry)) (now (work .entry)) (now (bytes .exit)) (now (lengths .exit)) (now (work .exit)) ⌝ }
+    ensures { λ y. ⌜ Settles room n entry t y (now (bytes .entry)) (now (lengths .entry)) (now (work .entry)) (now (bytes .exit)) (now (lengths .exit)) (now (work .exit)) ⌝ }
 {
     let m = t.mode;
-    if ledger::entries::room_for_all(ev, m, n, room, lengths) {
-        ledger::entries::note_all(ev, m, n, room, bytes, lengths);
-        return hand_back(v, t, n, room, bytes, lengths, work);
+    match entry {
+        Entry::Stops(refusal) => Stepped::Stopped(refusal),
+        Entry::Notes(ev, v) => {
+            if ledger::entries::room_for_all(ev, m, n, room, lengths) {
+                ledger::entries::note_all(ev, m, n, room, bytes, lengths);
+                return hand_back(v, t, n, room, bytes, lengths, work);
+            }
+            Stepped::Stopped(refusals::NO_ROOM)
+        }
     }
-    Stepped::Stopped(refusals::NO_ROOM)
 }
 
 // READ: the next input of the one party of the mode.
-fn read(
-    t: Stand,
-    n: u8,
-    room: usize,
-    inputs: &[i32],
-    at: &mut [usize],
-    end: &[usize],
-    bytes: &mut [u8],
-    lengths: &mut [usize],
-    work: &mut [u8],
-) -> Stepped
-    requires { ⌜ (n ≤ maxParties) × (n * room ≤ length (now bytes)) × (n ≤ length (now lengths)) × (t .depth .frames ≤ maxFrames) × (areaSize ≤ length (now work)) × (maxParties ≤ length (now at)) × (maxParties ≤ length (now end)) × (count (t .mode) ≡ 1) ⌝ }
-    ensures { λ y. ⌜ ReadsIn room n (now (inputs .entry)) (now (end .entry)) t y (record { bytes = now (bytes .entry); lengths = now (lengths .entry); work = now (work .entry); at = now (at .entry) }) (record { bytes = now (bytes .exit); lengths = now (lengths .exit); work = now (work .exit); at = now (at .exit) }) ⌝ }
+fn read(m: PartySet, inputs: &[i32], at: &mut [usize], end: &[usize]) -> Entry
+    requires { ⌜ (maxParties ≤ length (now at)) × (maxParties ≤ length (now end)) × (count m ≡ 1) ⌝ }
+    ensures { λ r. ⌜ EntryOf (now (inputs .entry)) (now (end .entry)) Effect.Reads m r (now (at .entry)) (now (at .exit)) ⌝ }
 {
-    let m = t.mode;
     let p = m.lowest() as usize;
     let Taken::Input(i) = inputs::next_input(p, inputs, at, end) else {
-        return Stepped::Stopped(refusals::NO_INPUT);
+        return Entry::Stops(refusals::NO_INPUT);
     };
     at[p] = at[p] + 1;
-    settled(
-        Event::Read(i),
-        Value::Clear(i, m),
-        t,
-        n,
-        room,
-        bytes,
-        lengths,
-        work,
-    )
+    Entry::Notes(Event::Read(i), Value::Clear(i, m))
 }
 
-// SHARE and REVEAL: all of the mode meet about a number.
-fn met(
-    mt: Meeting,
-    i: i32,
-    t: Stand,
-    n: u8,
-    room: usize,
-    bytes: &mut [u8],
-    lengths: &mut [usize],
-    work: &mut [u8],
-) -> Stepped
-    requires { ⌜ (n ≤ maxParties) × (n * room ≤ length (now bytes)) × (n ≤ length (now lengths)) × (t .depth .frames ≤ maxFrames) × (areaSize ≤ length (now work)) ⌝ }
-    ensures { λ y. ⌜ Settles room n (eventOf mt i) (Move.Hand (handed mt i)) t y (now (bytes .entry)) (now (lengths .entry)) (now (work .entry)) (now (bytes .exit)) (now (lengths .exit)) (now (work .exit)) ⌝ }
+// What an effect comes to that asks for more than a move: of a move nothing is left to do.
+fn entry_of(effect: Effect, m: PartySet, inputs: &[i32], at: &mut [usize], end: &[usize]) -> Entry
+    requires { ⌜ (maxParties ≤ length (now at)) × (maxParties ≤ length (now end)) × Sound m effect × Asked effect ⌝ }
+    ensures { λ r. ⌜ EntryOf (now (inputs .entry)) (now (end .entry)) effect m r (now (at .entry)) (now (at .exit)) ⌝ }
 {
-    let ev = judge::meetings::event_of(mt, i);
-    let v = judge::meetings::handed(mt, i);
-    settled(ev, v, t, n, room, bytes, lengths, work)
-}
-
-// What the node at which control stands asks for besides a move is done; of a move nothing is left to do.
-fn performed(
-    effect: Effect,
-    t: Stand,
-    n: u8,
-    room: usize,
-    inputs: &[i32],
-    at: &mut [usize],
-    end: &[usize],
-    bytes: &mut [u8],
-    lengths: &mut [usize],
-    work: &mut [u8],
-) -> Stepped
-    requires { ⌜ (n ≤ maxParties) × (n * room ≤ length (now bytes)) × (n ≤ length (now lengths)) × (t .depth .frames ≤ maxFrames) × (areaSize ≤ length (now work)) × (maxParties ≤ length (now at)) × (maxParties ≤ length (now end)) × Sound (t .mode) effect × Asked effect ⌝ }
-    ensures { λ y. ⌜ Performs room n (now (inputs .entry)) (now (end .entry)) effect t y (record { bytes = now (bytes .entry); lengths = now (lengths .entry); work = now (work .entry); at = now (at .entry) }) (record { bytes = now (bytes .exit); lengths = now (lengths .exit); work = now (work .exit); at = now (at .exit) }) ⌝ }
-{
-    let m = t.mode;
     match effect {
-        Effect::Refuse(refusal) => Stepped::Stopped(refusal),
-        Effect::Goes(_) => Stepped::Ended,
-        Effect::Reads => read(t, n, room, inputs, at, end, bytes, lengths, work),
-        Effect::Writes(i) => settled(
-            Event::Wrote(i),
-            Value::Clear(0, m),
-            t,
-            n,
-            room,
-            bytes,
-            lengths,
-            work,
-        ),
+        Effect::Refuse(refusal) => Entry::Stops(refusal),
+        Effect::Goes(_) => Entry::Stops(0),
+        Effect::Reads => read(m, inputs, at, end),
+        Effect::Writes(i) => Entry::Notes(Event::Wrote(i), Value::Clear(0, m)),
         Effect::Meets(mt, offer) => match offer {
-            Offer::Empty => Stepped::Stopped(refusals::WRONG_VALUE),
-            Offer::Secret(i, _) => met(mt, i, t, n, room, bytes, lengths, work),
+            Offer::Empty => Entry::Stops(refusals::WRONG_VALUE),
+            Offer::Secret(i, _) => Entry::Notes(
+                judge::meetings::event_of(mt, i),
+                judge::meetings::handed(mt, i),
+            ),
         },
     }
 }
@@ -191,17 +145,9 @@ pub fn step(
 {
     match advance::advance(View::Whole, program, nodes, t, work) {
         Advanced::Moved(next) => arrive(next, n, room, bytes, lengths),
-        Advanced::Asks(effect) => performed(
-            effect,
-            t,
-            n,
-            room,
-            inputs,
-            at,
-            end,
-            bytes,
-            lengths,
-            work,
-        ),
+        Advanced::Asks(effect) => {
+            let entry = entry_of(effect, t.mode, inputs, at, end);
+            settled(entry, t, n, room, bytes, lengths, work)
+        }
     }
 }

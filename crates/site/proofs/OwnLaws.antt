@@ -1,5 +1,5 @@
 -- What a site is asked to do, from what its node's rule says and from its room, and which rules ask for a meeting. Assumes nothing.
-use mathlib.Core.Path.{_≡_, refl, sym, _∙_}
+use mathlib.Core.Path.{_≡_, refl, sym, ap, _∙_}
 use mathlib.Core.Bool.{Bool, true, false, cond, _&&_, Bool·beq}
 use mathlib.Core.List.{List, [], _∷_}
 use mathlib.Core.Option.{some}
@@ -21,10 +21,10 @@ use Rattle.cells.specs.declared.Bound.{Bound}
 use Rattle.cells.specs.declared.Bound.the-variants.{Unbound}
 use Rattle.cells.specs.declared.Bound.the-variants.{To as To′}
 use Rattle.program.specs.Check.{Program, good, checked, nodeAt}
-use Rattle.nodes.specs.Nodes.{operationOf}
+use Rattle.nodes.specs.Nodes.{operationOf, jointOf}
 use Rattle.nodes.specs.declared.Node.{Node}
 use Rattle.nodes.specs.declared.Node.the-variants.{VAR, INT, OP, MUX, READ, WRITE, EMBED, SHARE, REVEAL, LET, CASE, PAR, CALL}
-use Rattle.nodes.proofs.Node.{the-type as node-type}
+use Rattle.nodes.specs.declared.JointNode.{JointNode}
 use Rattle.records.specs.Events.{hasRoom}
 use Rattle.refusals.specs.Numbers.{wrongValue, wrongMode, noRoom}
 use Rattle.rules.specs.Books.{Book, used, eventOf, eventFor, roomFor}
@@ -46,14 +46,15 @@ use Rattle.rules.proofs.effects.Effect.{the-type}
 use Rattle.lookup.specs.Lookup.{soughtOf}
 use Rattle.lookup.specs.declared.Sought.the-variants as Sought′
 use Rattle.lookup.specs.declared.Sought.the-variants.{Found}
-use Rattle.area.specs.Levels.{controlOf}
+use Rattle.area.specs.Levels.{namesAt, controlOf}
 use Rattle.table.specs.Table.{PlacesIn, nodeBy}
 use Rattle.area.specs.declared.stand.Stand.{Stand}
 use Rattle.table.proofs.TableLaws.{node-by}
 use Rattle.advance.specs.Advances.{ruleAt, Asked}
-use Rattle.site.specs.Own.{acted, Alone, AskedOwn, Weighs, Owns, meetingOf, Invites}
+use Rattle.site.specs.Own.{acted, Alone, AskedOwn, Weighs, Owns, meetingOf, meetingAt, Invites}
 use Rattle.site.specs.declared.own.Own.{Own}
 use Rattle.site.specs.declared.own.Own.the-variants.{Acts, Attends}
+use Rattle.site.specs.declared.own.Invitation.{Invitation}
 use Rattle.site.specs.declared.own.Invitation.the-variants.{Not, To}
 
 -- what is left once it is no meeting
@@ -129,33 +130,34 @@ either-not : (t : Bool) (e f : Effect) → Not ≡ meetingOf e → Not ≡ meeti
 either-not true e f g h = g
 either-not false e f g h = h
 
--- the kinds but SHARE and REVEAL
-abbrev pub NotJoint : Node → Type 0
-NotJoint node = OneOf (0 ∷ 1 ∷ 2 ∷ 3 ∷ 4 ∷ 5 ∷ 6 ∷ 9 ∷ 10 ∷ 11 ∷ 12 ∷ []) (tagOf node-type node)
-
-judge-not : (view : View) (e : Node) (m : PartySet) (vs : List Value) → NotJoint e → Not ≡ meetingOf (judge view e m vs)
-unfolding judge
-judge-not view (VAR x) m vs n = refl
-judge-not view (INT i) m vs n = refl
-judge-not view (OP o x y) m vs n = two-not m (operate (operationOf o)) (held m (first vs)) (held m (second vs))
-judge-not view (MUX x y z) m vs n = three-not m mux (held m (first vs)) (held m (second vs)) (held m (third vs))
-judge-not view READ m vs n = unless-not wrongMode (alone′ m) Reads refl
-judge-not view (WRITE x) m vs n = clear-not (held m (first vs)) _ (λ i. unless-not wrongMode (alone′ m) (Writes i) refl)
-judge-not view (EMBED x) m vs n = clear-not (held m (first vs)) _ (λ i. refl)
-judge-not view (SHARE a q x) m vs n = absurd (miss (0 ∷ 1 ∷ 2 ∷ 3 ∷ 4 ∷ 5 ∷ 6 ∷ 9 ∷ 10 ∷ 11 ∷ 12 ∷ []) 7 tt n)
-judge-not view (REVEAL q x) m vs n = absurd (miss (0 ∷ 1 ∷ 2 ∷ 3 ∷ 4 ∷ 5 ∷ 6 ∷ 9 ∷ 10 ∷ 11 ∷ 12 ∷ []) 8 tt n)
-judge-not view (LET x e1 e2) m vs n = refl
-judge-not view (CASE x e1 e2) m vs n = clear-not (held m (first vs)) _ (λ i. refl)
-judge-not view (PAR p e) m vs n = either-not (goesIn view m p) _ _ refl refl
-judge-not view (CALL f x) m vs n = refl
-
-pub rule-not : (view : View) (e : Node) (m : PartySet) (b : Names) → NotJoint e → Not ≡ meetingOf (rule view e m b)
+rule-not : (view : View) (e : Node) (m : PartySet) (b : Names) → ((vs : List Value) → Not ≡ meetingOf (judge view e m vs)) → Not ≡ meetingOf (rule view e m b)
 unfolding rule
 rule-not view e m b n = go (lookAll m b (namesOf e))
   where
     go : (r : Looked) → Not ≡ meetingOf (withValues r λ vs. judge view e m vs)
-    go (found vs) = judge-not view e m vs n
+    go (found vs) = n vs
     go (unbound x) = refl
+
+-- so it is enough to know the joint node
+asks-at : (view : View) (e : Node) (m : PartySet) (b : Names) → meetingAt view (jointOf e) m b ≡ meetingOf (rule view e m b)
+unfolding judge jointOf
+asks-at view (VAR x) m b = rule-not view (VAR x) m b (λ vs. refl)
+asks-at view (INT i) m b = rule-not view (INT i) m b (λ vs. refl)
+asks-at view (OP o x y) m b = rule-not view (OP o x y) m b (λ vs. two-not m (operate (operationOf o)) (held m (first vs)) (held m (second vs)))
+asks-at view (MUX x y z) m b = rule-not view (MUX x y z) m b (λ vs. three-not m mux (held m (first vs)) (held m (second vs)) (held m (third vs)))
+asks-at view READ m b = rule-not view READ m b (λ vs. unless-not wrongMode (alone′ m) Reads refl)
+asks-at view (WRITE x) m b = rule-not view (WRITE x) m b (λ vs. clear-not (held m (first vs)) _ (λ i. unless-not wrongMode (alone′ m) (Writes i) refl))
+asks-at view (EMBED x) m b = rule-not view (EMBED x) m b (λ vs. clear-not (held m (first vs)) _ (λ i. refl))
+asks-at view (SHARE a q x) m b = refl
+asks-at view (REVEAL q x) m b = refl
+asks-at view (LET x e1 e2) m b = rule-not view (LET x e1 e2) m b (λ vs. refl)
+asks-at view (CASE x e1 e2) m b = rule-not view (CASE x e1 e2) m b (λ vs. clear-not (held m (first vs)) _ (λ i. refl))
+asks-at view (PAR p e) m b = rule-not view (PAR p e) m b (λ vs. either-not (goesIn view m p) _ _ refl refl)
+asks-at view (CALL f x) m b = rule-not view (CALL f x) m b (λ vs. refl)
+
+pub meeting-asked : (view : View) (bs : List ℕ) (nodes : ℕ) (t : Stand) (w : List ℕ) {joint : JointNode} {r : Invitation} → joint ≡ jointOf (nodeBy bs nodes w (t .node))
+    → r ≡ meetingAt view joint (t .mode) (namesAt w (t .depth .frames)) → r ≡ meetingOf (ruleAt view bs nodes t w)
+meeting-asked view bs nodes t w e h = h ∙ ap (λ (j : JointNode). meetingAt view j (t .mode) (namesAt w (t .depth .frames))) e ∙ asks-at view (nodeBy bs nodes w (t .node)) (t .mode) (namesAt w (t .depth .frames))
 
 -- ---- SHARE and REVEAL, by what their one name is bound to
 sought-found : (x : Name) (o : Bound) (b : Binding) → Found b ≡ soughtOf x o → o ≡ To′ (b .value)

@@ -6,14 +6,21 @@ use mathlib.Core.Option.{none, some}
 use lib.IntN.{pos}
 use lib.ListN.{length}
 use Rattle.limits.specs.declared.Party.{Party}
+use Rattle.parties.specs.declared.sets.PartySet.{PartySet}
 use Rattle.values.specs.declared.value.Value.the-variants.{Clear}
+use Rattle.nodes.specs.declared.Node.the-variants.{SHARE, REVEAL}
+use Rattle.nodes.specs.declared.JointNode.{JointNode}
+use Rattle.nodes.specs.declared.JointNode.the-variants.{SHARE as SHARE′, REVEAL as REVEAL′, Neither}
 use Rattle.program.specs.Check.{Program, good, checked}
 use Rattle.records.specs.declared.events.Event.the-variants.{Wrote}
 use Rattle.rules.specs.Books.{Book, used}
 use Rattle.rules.specs.Moves.{Control}
+use Rattle.rules.specs.Names.{Names}
+use Rattle.rules.specs.Rules.{rule}
 use Rattle.rules.specs.Single.{Setting}
 use Rattle.rules.specs.Joint as Joint
 use Rattle.rules.specs.Joint.{Site, running, stop, settle, readOwn, performOwn, own, acts, attends}
+use Rattle.rules.specs.declared.effects.View.{View}
 use Rattle.rules.specs.declared.effects.Move.the-variants.{Hand}
 use Rattle.rules.specs.declared.effects.Effect.{Effect}
 use Rattle.rules.specs.declared.effects.Effect.the-variants.{Refuse, Goes, Reads, Writes, Meets}
@@ -72,6 +79,12 @@ meetingOf (Goes mv) = Not
 meetingOf Reads = Not
 meetingOf (Writes i) = Not
 meetingOf (Meets mt o) = To mt o
+
+-- the meeting that the rule of a joint node asks for; no other rule asks for one
+abbrev pub meetingAt : View → JointNode → PartySet → Names → Invitation
+meetingAt view (SHARE′ a q x) m b = meetingOf (rule view (SHARE a q x) m b)
+meetingAt view (REVEAL′ q x) m b = meetingOf (rule view (REVEAL q x) m b)
+meetingAt view Neither m b = Not
 
 -- what it says of a site that it is invited or not
 abbrev pub Says : Invitation → Joint.Own → Type 0

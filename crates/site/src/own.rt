@@ -6,14 +6,13 @@ ghost use lib.IntN.{pos};
 ghost use Rattle.limits.specs.Limits.{maxFrames};
 ghost use Rattle.records.specs.Events.{hasRoom};
 ghost use Rattle.rules.specs.Books.{eventOf, eventFor};
-ghost use Rattle.rules.specs.Rules.{rule};
 ghost use Rattle.rules.specs.Lent.{areaSize};
 ghost use Rattle.area.specs.Levels.{namesAt};
-ghost use Rattle.site.specs.Own.{meetingOf, Weighs, Invites};
+ghost use Rattle.site.specs.Own.{meetingOf, meetingAt, Weighs, Invites};
 use area::stand::Stand;
 use limits::Party;
 use lookup::Sought;
-use nodes::Node;
+use nodes::JointNode;
 use rules::effects::Effect;
 use rules::effects::Meeting;
 use rules::effects::Offer;
@@ -60,29 +59,29 @@ fn meeting_of(effect: Effect) -> Invitation
     Invitation::To(mt, offer)
 }
 
-// The meeting that the rule of a node asks site p for. Only SHARE and REVEAL are looked at: no other rule asks for one.
-fn meeting(p: Party, node: Node, t: Stand, area: &[u8]) -> Invitation
+// The meeting that the rule of a joint node asks site p for.
+fn meeting(p: Party, node: JointNode, t: Stand, area: &[u8]) -> Invitation
     requires { ⌜ (t .depth .frames ≤ maxFrames) × (areaSize ≤ length (now area)) ⌝ }
-    ensures { λ r. ⌜ r ≡ meetingOf (rule (View.Site p) node (t .mode) (namesAt (now (area .entry)) (t .depth .frames))) ⌝ }
+    ensures { λ r. ⌜ r ≡ meetingAt (View.Site p) node (t .mode) (namesAt (now (area .entry)) (t .depth .frames)) ⌝ }
 {
     let m = t.mode;
     let depth = t.depth;
     match node {
-        Node::SHARE(a, q, x) => {
+        JointNode::SHARE(a, q, x) => {
             let Sought::Found(b) = lookup::seek(area, depth, m, x) else {
                 return Invitation::Not;
             };
             let v = b.value;
             meeting_of(party_rules::share(View::Site(p), m, a, q, v))
         }
-        Node::REVEAL(q, x) => {
+        JointNode::REVEAL(q, x) => {
             let Sought::Found(b) = lookup::seek(area, depth, m, x) else {
                 return Invitation::Not;
             };
             let v = b.value;
             meeting_of(party_rules::reveal(View::Site(p), m, q, v))
         }
-        _ => Invitation::Not,
+        JointNode::Neither => Invitation::Not,
     }
 }
 
@@ -99,7 +98,7 @@ pub fn invited(
     requires { ⌜ (t .depth .frames ≤ maxFrames) × (areaSize ≤ length (now area)) ⌝ }
     ensures { λ r. ⌜ Invites (now (program .entry)) nodes p t room used r (now (area .entry)) ⌝ }
 {
-    let node = table::node(program, nodes, area, t.node);
+    let node = table::joint_node(program, nodes, area, t.node);
     let Invitation::To(mt, offer) = meeting(p, node, t, area) else {
         return Invitation::Not;
     };

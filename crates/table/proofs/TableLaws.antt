@@ -37,13 +37,23 @@ places-kept bs nodes w w′ few e p k h =
     ∙ getD-take tableSize w (2 * k + i) 0 (omega arith))
     ∙ p k h
 
+-- the node at the place that the table has, and past its last place
+module _ (bs : List ℕ) (nodes : ℕ) (w : List ℕ) (k : ℕ) where
+  pub at-its-place : {at : ℕ} → k < nodes → at ≡ numberAt 2 w (2 * k) → nodeIn bs at ≡ nodeBy bs nodes w k
+  unfolding nodeBy
+  at-its-place h e = rw (lt-ltb k nodes h, e)
+
+  pub past-the-last : nodes ≤ k → READ ≡ nodeBy bs nodes w k
+  unfolding nodeBy
+  past-the-last h = rw (le-ltb k nodes h)
+
 -- by its table, a good program's node is the node
 pub node-by : (bs : List ℕ) (p : Program) (w : List ℕ) (k : ℕ) → checked bs ≡ good p → PlacesIn bs (length (p .nodes)) w → nodeBy bs (length (p .nodes)) w k ≡ nodeAt p k
-unfolding nodeBy nodeAt
+unfolding nodeAt
 node-by bs p w k g t =
     elim (decLt k (length (p .nodes))) [
-      | yes h ↦ rw (lt-ltb k (length (p .nodes)) h, t k h) (good-program bs p g .at-place k h)
+      | yes h ↦ sym (at-its-place bs (length (p .nodes)) w k h (sym (t k h))) ∙ good-program bs p g .at-place k h
       | no h ↦
           let l : length (p .nodes) ≤ k = omega arith in
-          rw (le-ltb k (length (p .nodes)) l) (sym (List·getD-eq-default (p .nodes) READ {n = k} l))
+          sym (past-the-last bs (length (p .nodes)) w k l) ∙ sym (List·getD-eq-default (p .nodes) READ {n = k} l)
     ]

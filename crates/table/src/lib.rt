@@ -3,7 +3,9 @@ ghost use mathlib.Core.Path.{_≡_};
 ghost use Prim.Native.Nat.{_≤_};
 ghost use lib.ListN.{length};
 ghost use Rattle.rules.specs.Lent.{areaSize};
+ghost use Rattle.nodes.specs.Nodes.{jointOf};
 ghost use Rattle.table.specs.Table.{nodeBy, Prepared};
+use nodes::JointNode;
 use nodes::Node;
 
 // An area at the start of a run: the places of the nodes, and no name bound.
@@ -25,4 +27,15 @@ pub fn node(program: &[u8], nodes: usize, w: &[u8], k: u16) -> Node
     } else {
         Node::READ
     }
+}
+
+// The same for whoever looks only for meetings. It does not go by `node`, which is inlined because it has one caller.
+pub fn joint_node(program: &[u8], nodes: usize, w: &[u8], k: u16) -> JointNode
+    ensures { λ r. ⌜ r ≡ jointOf (nodeBy (now (program .entry)) nodes (now (w .entry)) k) ⌝ }
+{
+    let own = k as usize;
+    if nodes <= own {
+        return JointNode::Neither;
+    }
+    nodes::joint_node_at(program, places::place_of(w, own))
 }

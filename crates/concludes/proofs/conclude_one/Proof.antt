@@ -36,8 +36,8 @@ same-length : tie.Need-same-length
 same-length c = search needs
 
 returns : tie.Need-returns
-returns c = let a = c .before .before .before .before .before .before .before .before .args in
-    member-over (a .program .now) (a .nodes) (a .outcome) (a .p) (a .room) (a .bytes .now) (a .lengths .now) (a .work .now) (c .before .load-seat .result) (c .before .load-seat .ensures) (c .match .keys2)
+returns c = let a = c .before .before .before .before .before .before .before .args in
+    member-over (a .outcome) (a .p) (a .room) (a .bytes .now) (a .lengths .now) (a .work .now) (c .before .load-seat .result) (c .before .load-seat .ensures) (c .match .keys2)
 
 mul-start : tie.Need-mul-start
 mul-start c = search needs
@@ -70,8 +70,8 @@ part-take-part-end-2 : tie.Need-part-take-part-end-2
 part-take-part-end-2 c = search needs
 
 take-part-requires : tie.Need-take-part-requires
-take-part-requires c κs = let a = c .before .before .before .before .before .before .before .before .before .before .before .before .before .args in
-    (subst DeepSeat (sym (c .before .before .before .before .before .before .load-seat .ensures) ∙ c .before .before .before .before .t .given .1) (seat-deep (areaOf (a .p) (a .work .now))), omega (arith, row-length areaSize (a .p) (a .work .now) (c .before .before .before .before .before .before .before .before .before .before .before .before .before .pre .2)))
+take-part-requires c κs = let a = c .before .before .before .before .before .before .before .before .before .before .before .before .args in
+    (subst DeepSeat (sym (c .before .before .before .before .before .before .load-seat .ensures) ∙ c .before .before .before .before .t .given .1) (seat-deep (areaOf (a .p) (a .work .now))), omega (arith, row-length areaSize (a .p) (a .work .now) (c .before .before .before .before .before .before .before .before .before .before .before .before .pre .2)))
 
 mul-lengths : tie.Need-mul-lengths
 mul-lengths c = search needs
@@ -89,9 +89,9 @@ same-length-4 : tie.Need-same-length-4
 same-length-4 c = search needs
 
 returns-2 : tie.Need-returns-2
-returns-2 c = let a = c .before .before .before .before .before .before .before .before .before .before .before .before .before .before .before .before .before .before .args in
-    member-runs (a .program .now) (a .nodes) (a .outcome) (a .p) (a .room) (a .bytes .now) (a .lengths .now) (a .work .now) (c .before .before .before .before .before .before .before .before .before .before .before .load-seat .result) (c .before .before .before .before .before .before .before .before .before .before .before .load-seat .ensures) _ (c .before .before .before .before .before .before .before .before .before .t .given .1) (c .before .before .before .before .take-part .result) _ _
-    (c .before .before .before .before .take-part .kept .1 .1 .1 .1 .1 .1 .1 .0 ∙ row-length areaSize (a .p) (a .work .now) (c .before .before .before .before .before .before .before .before .before .before .before .before .before .before .before .before .before .before .pre .2)) (c .before .before .before .before .before .before .before .before .before .before .before .before .before .before .before .before .before .before .pre .2) (c .before .before .before .before .take-part .ensures)
+returns-2 c = let a = c .before .before .before .before .before .before .before .before .before .before .before .before .before .before .before .before .before .args in
+    member-runs (a .outcome) (a .p) (a .room) (a .bytes .now) (a .lengths .now) (a .work .now) (c .before .before .before .before .before .before .before .before .before .before .before .load-seat .result) (c .before .before .before .before .before .before .before .before .before .before .before .load-seat .ensures) _ (c .before .before .before .before .before .before .before .before .before .t .given .1) (c .before .before .before .before .take-part .result) _ _
+    (c .before .before .before .before .take-part .kept .1 .1 .1 .1 .1 .0 ∙ row-length areaSize (a .p) (a .work .now) (c .before .before .before .before .before .before .before .before .before .before .before .before .before .before .before .before .before .pre .2)) (c .before .before .before .before .before .before .before .before .before .before .before .before .before .before .before .before .before .pre .2) (c .before .before .before .before .take-part .ensures)
 
 pub conclude-one-spec : {M : Type 1} → statement M
 conclude-one-spec =

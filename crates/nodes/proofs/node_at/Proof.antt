@@ -5,7 +5,7 @@ use lib.Seq.{getD-drop}
 use borrow.Author.Needs.{needs}
 use Rattle.numbers.proofs.IntegerLaws.{read32}
 use Rattle.nodes.specs.Nodes.{nodeOf}
-use Rattle.nodes.proofs.ReadLaws.{number-drop, kind-is, other-read}
+use Rattle.nodes.proofs.ReadLaws.{number-drop, kind-is, share-in, reveal-in, other-read}
 use Rattle.nodes.proofs.node_at.Statement.{statement}
 use Rattle.nodes.proofs.node_at.Tie as tie
 
@@ -154,12 +154,10 @@ unfolding nodeOf
 returns-6 c = rw (c .name-at8 .ensures) (simp (getD-drop, add-zero) at (kind-is (c .before .before .before .before .args .p .now) (c .before .before .before .before .args .at) 7 (c .before .before .byte .ensures) (c .before .match .keys6)))
 
 returns-7 : tie.Need-returns-7
-unfolding nodeOf
-returns-7 c = rw (c .name-at9 .ensures, c .before .set-at .ensures, c .before .before .byte3 .ensures) (simp (getD-drop, number-drop, add-zero) at (kind-is (c .before .before .before .before .before .before .args .p .now) (c .before .before .before .before .before .before .args .at) 8 (c .before .before .before .before .byte .ensures) (c .before .before .before .match .keys7)))
+returns-7 c = rw (c .name-at9 .ensures, c .before .set-at .ensures, c .before .before .byte3 .ensures) (share-in _ _ (c .before .before .before .before .byte .ensures) (c .before .before .before .match .keys7))
 
 returns-8 : tie.Need-returns-8
-unfolding nodeOf
-returns-8 c = rw (c .name-at10 .ensures, c .before .set-at2 .ensures) (simp (getD-drop, number-drop, add-zero) at (kind-is (c .before .before .before .before .before .args .p .now) (c .before .before .before .before .before .args .at) 9 (c .before .before .before .byte .ensures) (c .before .before .match .keys8)))
+returns-8 c = rw (c .name-at10 .ensures, c .before .set-at2 .ensures) (reveal-in _ _ (c .before .before .before .byte .ensures) (c .before .before .match .keys8))
 
 returns-9 : tie.Need-returns-9
 unfolding nodeOf

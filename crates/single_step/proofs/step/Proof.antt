@@ -5,7 +5,7 @@ use Rattle.rules.specs.declared.effects.Effect.{Effect}
 use Rattle.rules.specs.declared.effects.Effect.the-variants.{Goes}
 use Rattle.rules.specs.RunLaws.{Sound, whole-sound}
 use Rattle.single_step.proofs.StepLaws.{moved-by}
-use Rattle.single_step.proofs.PerformLaws.{goes, steps-on}
+use Rattle.single_step.proofs.PerformLaws.{goes, enters, steps-on}
 use Rattle.single_step.proofs.step.Statement.{statement}
 use Rattle.single_step.proofs.step.Tie as tie
 
@@ -21,11 +21,15 @@ arrive-requires c κs = search needs
 enum-known-effect : tie.Need-enum-known-effect
 enum-known-effect c = search needs
 
-performed-requires : tie.Need-performed-requires
-performed-requires c κs = let p = c .before .before .before .before .before .before .before .before .before .before .before .before .before .before .before .before .before .pre in
-    let m = c .before .before .before .before .before .before .before .before .before .before .before .before .before .before .before .before .before .args .t .mode in
-    let r = c .before .before .before .before .before .before .before .before .before .advance .ensures .asks _ (c .before .before .before .before .before .effect .given .1) in
-    (p .0, p .1, p .2, p .3, rw (r .2) (p .4), p .5, p .6, subst (λ (x : Effect). Sound m x) (sym (r .0)) (whole-sound m _ _), r .1)
+entry-of-requires : tie.Need-entry-of-requires
+entry-of-requires c κs =
+    let p = c .before .before .before .before .before .before .before .before .before .before .before .before .before .before .pre in
+    let m = c .before .before .before .before .before .before .before .before .before .before .before .before .before .before .args .t .mode in
+    let r = c .before .before .before .before .before .before .advance .ensures .asks _ (c .before .before .effect .given .1) in
+    (p .5, p .6, subst (λ (x : Effect). Sound m x) (sym (r .0)) (whole-sound m _ _), r .1)
+
+settled-requires : tie.Need-settled-requires
+settled-requires c κs = search needs
 
 same-length : tie.Need-same-length
 same-length c = search needs
@@ -37,10 +41,11 @@ same-length-3 : tie.Need-same-length-3
 same-length-3 c = search needs
 
 returns : tie.Need-returns
-returns c = let a = c .before .before .before .before .before .before .before .before .before .before .before .before .before .before .before .before .before .before .before .before .args in
+returns c =
+    let a = c .before .before .before .before .before .before .before .before .before .before .before .before .before .before .before .before .before .before .before .before .args in
     let r = c .before .before .before .before .before .before .before .before .before .before .before .before .advance .ensures .moved _ (c .before .before .before .before .before .before .before .before .next .given .1) in
     steps-on (a .program .now) (a .nodes) (a .room) (a .n) (a .inputs .now) (a .end .now) (a .t) _ (record { bytes = a .bytes .now; lengths = a .lengths .now; work = a .work .now; at = a .at .now }) _ (Goes (r .0)) (r .1)
-    (goes (a .room) (a .n) (a .inputs .now) (a .end .now) (a .t) (record { bytes = a .bytes .now; lengths = a .lengths .now; work = a .work .now; at = a .at .now }) (r .0) _ _ refl (moved-by (a .room) (a .n) (r .0) (a .t) _ _ (a .bytes .now) (a .lengths .now) (a .work .now) _ _ _ (r .2) (c .before .before .before .before .arrive .ensures)))
+    (goes (a .room) (a .n) (a .inputs .now) (a .end .now) (a .t) _ (record { bytes = a .bytes .now; lengths = a .lengths .now; work = a .work .now; at = a .at .now }) _ (r .0) refl (moved-by (a .room) (a .n) (r .0) (a .t) _ _ (a .bytes .now) (a .lengths .now) (a .work .now) _ _ _ (r .2) (c .before .before .before .before .arrive .ensures)))
 
 same-length-4 : tie.Need-same-length-4
 same-length-4 c = search needs
@@ -55,9 +60,11 @@ same-length-7 : tie.Need-same-length-7
 same-length-7 c = search needs
 
 returns-2 : tie.Need-returns-2
-returns-2 c = let a = c .before .before .before .before .before .before .before .before .before .before .before .before .before .before .before .before .before .before .before .before .before .before .before .before .before .before .args in
-    let r = c .before .before .before .before .before .before .before .before .before .before .before .before .before .before .before .before .before .before .advance .ensures .asks _ (c .before .before .before .before .before .before .before .before .before .before .before .before .before .before .effect .given .1) in
-    steps-on (a .program .now) (a .nodes) (a .room) (a .n) (a .inputs .now) (a .end .now) (a .t) _ (record { bytes = a .bytes .now; lengths = a .lengths .now; work = a .work .now; at = a .at .now }) _ _ (r .0) (rw (r .2) at (c .before .before .before .before .before .before .before .before .performed .ensures))
+returns-2 c =
+    let a = c .before .before .before .before .before .before .before .before .before .before .before .before .before .before .before .before .before .before .before .before .before .before .before .before .before .before .before .args in
+    let r = c .before .before .before .before .before .before .before .before .before .before .before .before .before .before .before .before .before .before .before .advance .ensures .asks _ (c .before .before .before .before .before .before .before .before .before .before .before .before .before .before .before .effect .given .1) in
+    steps-on (a .program .now) (a .nodes) (a .room) (a .n) (a .inputs .now) (a .end .now) (a .t) _ (record { bytes = a .bytes .now; lengths = a .lengths .now; work = a .work .now; at = a .at .now }) _ _ (r .0)
+    (enters (a .room) (a .n) (a .inputs .now) (a .end .now) (a .t) _ (record { bytes = a .bytes .now; lengths = a .lengths .now; work = a .work .now; at = a .at .now }) _ _ _ (c .before .before .before .before .before .before .before .before .before .before .before .before .entry-of .ensures) (rw (r .2) at (c .before .before .before .before .before .before .settled .ensures)))
 
 pub step-spec : {M : Type 1} → statement M
 step-spec =
@@ -67,7 +74,8 @@ step-spec =
     enum-known-next
     arrive-requires
     enum-known-effect
-    performed-requires
+    entry-of-requires
+    settled-requires
     same-length
     same-length-2
     same-length-3

@@ -1,17 +1,13 @@
 -- `site::own::invited` meets its contract. Assumes nothing.
-use mathlib.Core.Path.{refl, sym, ap, _∙_}
-use Rattle.nodes.specs.declared.Node.{Node}
-use Rattle.rules.specs.Rules.{rule}
+use mathlib.Core.Path.{refl, sym, _∙_}
 use Rattle.rules.specs.declared.effects.View.the-variants.{Site}
-use Rattle.area.specs.Levels.{namesAt}
-use Rattle.site.specs.Own.{meetingOf}
-use Rattle.site.proofs.OwnLaws.{invites-not, invites-to, invites-lacks}
+use Rattle.site.proofs.OwnLaws.{meeting-asked, invites-not, invites-to, invites-lacks}
 use borrow.Author.Needs.{needs}
 use Rattle.site.proofs.own.invited.Statement.{statement}
 use Rattle.site.proofs.own.invited.Tie as tie
 
-node-requires : tie.Need-node-requires
-node-requires c κs = search needs
+joint-node-requires : tie.Need-joint-node-requires
+joint-node-requires c κs = search needs
 
 meeting-requires : tie.Need-meeting-requires
 meeting-requires c κs = search needs
@@ -24,24 +20,24 @@ enum-told c = search needs
 
 returns : tie.Need-returns
 returns c = let a = c .before .before .before .before .before .before .args in
-    invites-not (a .program .now) (a .nodes) (a .p) (a .t) (a .room) (a .used) (a .area .now) _ refl (sym (c .enum-told .given .1) ∙ c .before .before .meeting .ensures ∙ ap (λ (x : Node). meetingOf (rule (Site (a .p)) x (a .t .mode) (namesAt (a .area .now) (a .t .depth .frames)))) (c .before .before .before .node .ensures))
+    invites-not (a .program .now) (a .nodes) (a .p) (a .t) (a .room) (a .used) (a .area .now) _ refl (sym (c .enum-told .given .1) ∙ meeting-asked (Site (a .p)) (a .program .now) (a .nodes) (a .t) (a .area .now) (c .before .before .before .joint-node .ensures) (c .before .before .meeting .ensures))
 
 room-for-requires : tie.Need-room-for-requires
 room-for-requires c κs = search needs
 
 returns-2 : tie.Need-returns-2
 returns-2 c = let a = c .before .before .before .before .before .before .before .before .before .args in
-    invites-to (a .program .now) (a .nodes) (a .p) (a .t) (a .room) (a .used) (a .area .now) _ refl _ _ (sym (c .before .before .before .mt .given .1) ∙ c .before .before .before .before .before .meeting .ensures ∙ ap (λ (x : Node). meetingOf (rule (Site (a .p)) x (a .t .mode) (namesAt (a .area .now) (a .t .depth .frames)))) (c .before .before .before .before .before .before .node .ensures)) (c .before .room-for .result) (c .before .room-for .ensures) (c .if1 .taken)
+    invites-to (a .program .now) (a .nodes) (a .p) (a .t) (a .room) (a .used) (a .area .now) _ refl _ _ (sym (c .before .before .before .mt .given .1) ∙ meeting-asked (Site (a .p)) (a .program .now) (a .nodes) (a .t) (a .area .now) (c .before .before .before .before .before .before .joint-node .ensures) (c .before .before .before .before .before .meeting .ensures)) (c .before .room-for .result) (c .before .room-for .ensures) (c .if1 .taken)
 
 returns-3 : tie.Need-returns-3
 returns-3 c = let a = c .before .before .before .before .before .before .before .before .before .args in
-    invites-lacks (a .program .now) (a .nodes) (a .p) (a .t) (a .room) (a .used) (a .area .now) _ refl _ _ (sym (c .before .before .before .mt .given .1) ∙ c .before .before .before .before .before .meeting .ensures ∙ ap (λ (x : Node). meetingOf (rule (Site (a .p)) x (a .t .mode) (namesAt (a .area .now) (a .t .depth .frames)))) (c .before .before .before .before .before .before .node .ensures)) (c .before .room-for .result) (c .before .room-for .ensures) (c .if1 .left)
+    invites-lacks (a .program .now) (a .nodes) (a .p) (a .t) (a .room) (a .used) (a .area .now) _ refl _ _ (sym (c .before .before .before .mt .given .1) ∙ meeting-asked (Site (a .p)) (a .program .now) (a .nodes) (a .t) (a .area .now) (c .before .before .before .before .before .before .joint-node .ensures) (c .before .before .before .before .before .meeting .ensures)) (c .before .room-for .result) (c .before .room-for .ensures) (c .if1 .left)
 
 pub invited-spec : {M : Type 1} → statement M
 invited-spec =
     tie.close
     (tie.spec
-    node-requires
+    joint-node-requires
     meeting-requires
     enum-known-mt
     enum-told

@@ -4,7 +4,7 @@ use Rattle.rules.specs.declared.effects.View.the-variants.{Site}
 use Rattle.rules.specs.declared.effects.Effect.{Effect}
 use Rattle.area.specs.Levels.{namesAt}
 use Rattle.site.specs.Own.{meetingOf}
-use Rattle.site.proofs.OwnLaws.{rule-not, share-bound, share-unbound, reveal-bound, reveal-unbound}
+use Rattle.site.proofs.OwnLaws.{share-bound, share-unbound, reveal-bound, reveal-unbound}
 use borrow.Author.Needs.{needs}
 use Rattle.site.proofs.own.meeting.Statement.{statement}
 use Rattle.site.proofs.own.meeting.Tie as tie
@@ -53,6 +53,9 @@ reveal-requires c κs = search needs
 meeting-of-requires-2 : tie.Need-meeting-of-requires-2
 meeting-of-requires-2 c κs = search needs
 
+enum-told-3 : tie.Need-enum-told-3
+enum-told-3 c = search needs
+
 returns-3 : tie.Need-returns-3
 returns-3 c = let a = c .before .before .before .before .before .before .before .before .before .before .before .before .args in
     rw (c .before .before .before .before .before .before .before .node .given .1) (c .meeting-of .ensures ∙ ap (λ (e : Effect). meetingOf e) (c .before .share .ensures ∙ sym (share-bound (Site (a .p)) (a .t .mode) (namesAt (a .area .now) (a .t .depth .frames)) _ _ _ _ (sym (c .before .before .before .b .given .1) ∙ c .before .before .before .before .before .seek .ensures))))
@@ -62,7 +65,7 @@ returns-4 c = let a = c .before .before .before .before .before .before .before 
     rw (c .before .before .before .before .before .before .before .node2 .given .1) (c .meeting-of2 .ensures ∙ ap (λ (e : Effect). meetingOf e) (c .before .reveal .ensures ∙ sym (reveal-bound (Site (a .p)) (a .t .mode) (namesAt (a .area .now) (a .t .depth .frames)) _ _ _ (sym (c .before .before .before .b2 .given .1) ∙ c .before .before .before .before .before .seek2 .ensures))))
 
 returns-5 : tie.Need-returns-5
-returns-5 c = let a = c .before .before .before .before .args in rule-not (Site (a .p)) (a .node) (a .t .mode) (namesAt (a .area .now) (a .t .depth .frames)) (c .match .keys3)
+returns-5 c = search needs
 
 pub meeting-spec : {M : Type 1} → statement M
 meeting-spec =
@@ -82,6 +85,7 @@ meeting-spec =
     returns-2
     reveal-requires
     meeting-of-requires-2
+    enum-told-3
     returns-3
     returns-4
     returns-5)
