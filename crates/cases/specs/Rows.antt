@@ -2,6 +2,7 @@
 use Prim.Native.Nat.{ℕ, zero, suc, _+_, _*_}
 use mathlib.Core.List.{List, [], _∷_, _++_}
 use lib.IntN.{ℤ}
+unfoldable pub use Rattle.numbers.specs.Sums.{sum}
 use Rattle.words.specs.Words.{numberAt, integerAt}
 
 -- f 0, f 1 and so on, k of them
@@ -16,7 +17,3 @@ numbersAt width k bs at = row k (λ i. numberAt width bs (at + width * i))
 -- k integers, of four bytes each
 unfoldable pub integersAt : (k : ℕ) → List ℕ → (at : ℕ) → List ℤ
 integersAt k bs at = row k (λ i. integerAt bs (at + 4 * i))
-
-unfoldable pub sum : List ℕ → ℕ
-sum [] = 0
-sum (n ∷ ns) = n + sum ns

@@ -3,14 +3,14 @@ use Prim.Native.Nat.{ℕ, _<_}
 use mathlib.Core.Path.{_≡_, refl, sym, ap, _∙_, subst}
 use mathlib.Core.Bool.{true}
 use mathlib.Core.List.{List, [], _∷_}
-use mathlib.Core.Option.{none}
+use mathlib.Core.Option.{Option, none}
 use Rattle.program.specs.Check.{Program, good, checked}
 use Rattle.walk.specs.Walk.{ends}
 use Rattle.records.specs.declared.events.Event.{Event}
 use Rattle.walk.proofs.WrittenLaws.{before}
 use Rattle.rules.specs.Lent.{Lent, roomOf, countsFit, enoughLent}
-use Rattle.rules.specs.Calls.{settingOf, badTurnFrom, jointCall}
-use Rattle.invariants.specs.Accepted.{SingleAccepted, JointAccepted, jointRun}
+use Rattle.rules.specs.Calls.{Accepted, settingOf, jointCall}
+use Rattle.invariants.specs.Accepted.{JointAccepted, jointRun}
 use Rattle.invariants.specs.InRange.{AllBytes, AllIntegers}
 use Rattle.invariants.specs.Left.{recordOf}
 use Rattle.invariants.specs.Sites.{eventsOf}
@@ -27,25 +27,15 @@ one-setting p p′ L L′ e r =
     subst (λ (q : Program). settingOf q L′ ≡ settingOf p L) (sym e) (ap (λ (R : ℕ). record { program = p; room = R }) r)
 
 -- an accepted call, with the program that its check gives
-abbrev pub single-of : (p : Program) (L : Lent) → checked (L .program) ≡ good p → SingleAccepted L → SingleAccepted L
-single-of p L h a =
+abbrev pub accepted-of : {areas : ℕ → ℕ} {firstBad : ℕ → Option ℕ} (p : Program) (L : Lent) → checked (L .program) ≡ good p → Accepted areas firstBad L → Accepted areas firstBad L
+accepted-of {areas} {firstBad} p L h a =
     let e : a .program ≡ p = one-program (L .program) (L .program) p (a .program) refl h (a .checks) in
     record {
       program = p;
       checks = h;
       counts = subst (λ (q : Program). countsFit (q .parties) L ≡ true) e (a .counts);
-      lent = subst (λ (q : Program). enoughLent (q .parties) 1 L ≡ true) e (a .lent);
-    }
-
-abbrev pub joint-of : (p : Program) (L : Lent) (ts : List ℕ) → checked (L .program) ≡ good p → JointAccepted L ts → JointAccepted L ts
-joint-of p L ts h a =
-    let e : a .program ≡ p = one-program (L .program) (L .program) p (a .program) refl h (a .checks) in
-    record {
-      program = p;
-      checks = h;
-      counts = subst (λ (q : Program). countsFit (q .parties) L ≡ true) e (a .counts);
-      turns = subst (λ (q : Program). badTurnFrom (q .parties) 0 ts ≡ none) e (a .turns);
-      lent = subst (λ (q : Program). enoughLent (q .parties) (q .parties) L ≡ true) e (a .lent);
+      turns = subst (λ (q : Program). firstBad (q .parties) ≡ none) e (a .turns);
+      lent = subst (λ (q : Program). enoughLent (q .parties) (areas (q .parties)) L ≡ true) e (a .lent);
     }
 
 found-before : (es : List Event) → found (before es ends) ≡ es

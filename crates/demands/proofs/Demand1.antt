@@ -2,26 +2,25 @@
 use Prim.Native.Nat.{ℕ}
 use mathlib.Core.Path.{_≡_, refl, sym, ap, _∙_}
 use mathlib.Core.Bool.{Bool, true, false, cond}
-use denote.Ref.{RefT}
+use mathlib.Core.List.{List}
 use Rattle.program.specs.Answer.{CheckAnswer, accepted, refused}
 use Rattle.program.specs.Answer as Check
 use Rattle.program.specs.declared.check.Verdict.{Verdict}
 use Rattle.program.specs.declared.check.Verdict.the-variants as Verdict′
 use Rattle.walk.specs.Walk.{StepAnswer, event, end}
 use Rattle.walk.specs.Walk as Walk
-use Rattle.order.specs.Order.{Continues}
 use Rattle.walk.specs.declared.Step.{Step}
 use Rattle.walk.specs.declared.Step.the-variants as Step′
 use Rattle.reader.specs.declared.Reader.{Reader}
-use Rattle.rules.specs.Lent.{Lent, Left, unchanged, leftBy}
+use Rattle.rules.specs.Lent.{Lent, unchanged, leftBy}
 use Rattle.rules.specs.Single.{Single, going, ended, stopped}
 use Rattle.rules.specs.Joint.{Turned, allFinished}
-use Rattle.rules.specs.Calls.{SingleAnswer, JointAnswer, singleLeft, singleCall, jointLeft, jointCall}
+use Rattle.rules.specs.Calls.{JointAnswer, singleLeft, singleOf, singleCall, jointLeft, jointOf, jointCall}
+use Rattle.rules.specs.CallLaws.{call-refused}
 use Rattle.single.proofs.OneAnswer as Single
 use Rattle.joint.proofs.OneAnswer as Joint
 use Rattle.invariants.specs.Accepted.{IsSingleRun, IsJointRun}
 use Rattle.demands.specs.Demand1.{Untouched, Demand1}
-use Rattle.demands.proofs.CallCases.{single-cases, joint-cases}
 use Rattle.demands.proofs.Stops.{single-number, joint-number}
 
 -- no two answers say the same
@@ -61,6 +60,10 @@ single-runs n L (going t c b) = tt
 single-runs n L (ended t v b) = tt
 single-runs n L (stopped t refusal e b) = tt
 
+single-refused : (L : Lent) (budget : ℕ) → (IsSingleRun (singleCall L budget .answer) → ⊥) → Untouched L (singleCall L budget)
+unfolding singleCall singleOf
+single-refused L budget h = call-refused (singleOf L budget) L IsSingleRun (Untouched L) (untouched L) (λ p. single-runs (p .parties) L _) h
+
 joint-runs : (n : ℕ) (L : Lent) (t : Turned) → IsJointRun (jointLeft n L t .answer)
 unfolding jointLeft leftBy
 joint-runs n L t = go (allFinished n (t .sites))
@@ -68,6 +71,10 @@ joint-runs n L t = go (allFinished n (t .sites))
     go : (all : Bool) → IsJointRun (cond all (JointAnswer.complete (t .count)) (JointAnswer.stillOpen (t .count)))
     go true = tt
     go false = tt
+
+joint-refused : (L : Lent) (ts : List ℕ) → (IsJointRun (jointCall L ts .answer) → ⊥) → Untouched L (jointCall L ts)
+unfolding jointCall jointOf
+joint-refused L ts h = call-refused (jointOf L ts) L IsJointRun (Untouched L) (untouched L) (λ p. joint-runs (p .parties) L _) h
 
 pub demand-1 : Demand1
 demand-1 =
@@ -79,13 +86,9 @@ demand-1 =
       order = λ xs ys r r′ e e′. e ∙ sym e′;
       continuation = λ a b r r′ k k′. (k .bytes ∙ sym (k′ .bytes), k .place ∙ sym (k′ .place));
       single = λ L budget. Single.one-answer (singleCall L budget);
-      single-refused = λ L budget.
-          single-cases L budget (λ (X : Left SingleAnswer). (IsSingleRun (X .answer) → ⊥) → Untouched L X) (λ number place k h. untouched L _)
-          (λ p h. absurd (h (single-runs (p .parties) L _)));
+      single-refused = single-refused;
       joint = λ L ts. Joint.one-answer (jointCall L ts);
-      joint-refused = λ L ts.
-          joint-cases L ts (λ (X : Left JointAnswer). (IsJointRun (X .answer) → ⊥) → Untouched L X) (λ number place k h. untouched L _)
-          (λ p h. absurd (h (joint-runs (p .parties) L _)));
+      joint-refused = joint-refused;
       single-number = single-number;
       joint-number = joint-number;
     }

@@ -2,36 +2,33 @@
 use Prim.Native.Nat.{ℕ, _<_, _≤_}
 use mathlib.Core.Path.{_≡_, refl, sym, ap, _∙_, subst}
 use mathlib.Core.Bool.{Bool, true, false, cond}
-use mathlib.Core.List.{List, [], _∷_}
-use mathlib.Core.Option.{none}
+use mathlib.Core.List.{List}
 use native.Mathlib.Omega.{arith}
-use lib.IntN.{ℤ}
-use lib.ListN.{length, getD, take, drop}
+use lib.ListN.{getD, take, drop}
 use Rattle.limits.specs.Limits.{maxParties}
 use Rattle.program.specs.Check.{Program, good, checked}
 use Rattle.places.specs.GoodLaws.{good-program}
 use Rattle.values.specs.declared.value.Value.{Value}
 use Rattle.records.specs.Events.{written}
 use Rattle.rules.specs.Books.{Book, Books, used}
-use Rattle.rules.specs.Lent.{Lent, Left, sum, roomOf, inputsOf, countsFit, enoughLent, leftBy}
+use Rattle.rules.specs.Lent.{Lent, Left, sum, inputsOf, leftBy}
 use Rattle.rules.specs.Single.{Setting, Single, going, ended, stopped, after}
 use Rattle.rules.specs.Joint.{Turned, allFinished, bookOf, isFinished}
-use Rattle.rules.specs.Calls.{SingleAnswer, JointAnswer, endedAfter, complete, stillOpen, settingOf, singleLeft, badTurnFrom, jointLeft, singleCall, jointCall}
-use Rattle.invariants.specs.Accepted.{SingleAccepted, JointAccepted, IsSingleRun, IsJointRun, singleRun, jointRun}
+use Rattle.rules.specs.Calls.{SingleAnswer, JointAnswer, endedAfter, complete, stillOpen, settingOf, singleLeft, jointLeft, singleCall, jointCall}
+use Rattle.invariants.specs.Accepted.{SingleAccepted, JointAccepted, IsJointRun, singleRun, jointRun}
 use Rattle.invariants.specs.InRange.{AllBytes, AllIntegers}
 use Rattle.invariants.specs.Left.{recordOf}
 use Rattle.invariants.specs.Runs.{booksOf}
-use Rattle.invariants.specs.Sites.{eventsOf, siteAfter}
 use Rattle.invariants.proofs.AcceptedLaws.{single-accepted, single-is, single-record, single-length, joint-accepted, joint-is, joint-record, joint-length}
-use Rattle.demands.specs.Rounds.{Below, Rounds, IsEnded, turnsOf}
+use Rattle.demands.specs.Rounds.{Rounds, IsEnded, turnsOf}
 use Rattle.demands.specs.Walked.{eventsIn}
-use Rattle.demands.specs.Demand2.{hasFinished, Equal, Follow, Demand2}
+use Rattle.demands.specs.Demand2.{hasFinished, Equal, Demand2}
 use Rattle.demands.proofs.StepCount.{ended-by}
 use Rattle.demands.proofs.FinishedLaws.{turns-below, each-finished, all-finished}
 use Rattle.demands.proofs.FinishedRecords.{shown}
 use Rattle.demands.proofs.SameRecords.{same-record, rounds-complete}
 use Rattle.demands.proofs.TurnCount.{turn-count}
-use Rattle.demands.proofs.CallLaws.{one-setting, single-of, joint-of, events-found}
+use Rattle.demands.proofs.CallLaws.{one-setting, accepted-of, events-found}
 
 -- ---- what the answers say of the runs
 
@@ -78,13 +75,13 @@ module _ (p : Program) (L L′ : Lent) (budget steps : ℕ) (same : Equal p L L�
   S = settingOf p L
 
   abbrev single : SingleAccepted L
-  single = single-of p L (same .checks) (single-accepted L budget (rw ends tt))
+  single = accepted-of p L (same .checks) (single-accepted L budget (rw ends tt))
 
   checks′ : checked (L′ .program) ≡ good p
   checks′ = ap checked (same .program) ∙ same .checks
 
   abbrev joint : (ts : List ℕ) → IsJointRun (jointCall L′ ts .answer) → JointAccepted L′ ts
-  joint ts r = joint-of p L′ ts checks′ (joint-accepted L′ ts r)
+  joint ts r = accepted-of p L′ checks′ (joint-accepted L′ ts r)
 
   run-same : (ts : List ℕ) → jointRun p L′ ts ≡ jointRun p L ts
   run-same ts = rw (one-setting p p L L′ refl (same .room), inputs-same L L′ (same .counts) (same .inputs))

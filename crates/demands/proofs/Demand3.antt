@@ -1,31 +1,29 @@
 -- Demand 3 holds. Assumes nothing.
-use Prim.Native.Nat.{ℕ, _<_}
 use mathlib.Core.Path.{_≡_, refl, sym, ap, _∙_, subst}
-use mathlib.Core.List.{List}
-use Rattle.program.specs.Check.{Program, good, checked}
+use Rattle.program.specs.Check.{checked}
 use Rattle.records.specs.Events.{written}
-use Rattle.rules.specs.Lent.{Lent, inputsOf}
+use Rattle.rules.specs.Lent.{inputsOf}
 use Rattle.rules.specs.Single.{Setting}
 use Rattle.rules.specs.Calls.{jointCall, settingOf}
 use Rattle.invariants.specs.Accepted.{JointAccepted, jointRun}
-use Rattle.invariants.specs.InRange.{AllBytes, AllIntegers}
+use Rattle.invariants.specs.InRange.{AllBytes}
 use Rattle.invariants.specs.Left.{recordOf}
 use Rattle.invariants.specs.Sites.{eventsOf, siteAfter}
 use Rattle.invariants.proofs.AcceptedLaws.{joint-accepted, joint-record}
 use Rattle.demands.specs.Walked.{eventsIn}
 use Rattle.demands.specs.Opened.{openings, EndsIn11, Agree}
-use Rattle.demands.specs.Demand3.{Alike, Demand3}
-use Rattle.demands.proofs.CallLaws.{one-setting, joint-of, events-found}
+use Rattle.demands.specs.Demand3.{Demand3}
+use Rattle.demands.proofs.CallLaws.{one-setting, accepted-of, events-found}
 use Rattle.demands.proofs.SitesAgree.{records-agree}
 
 pub demand-3 : Demand3
 demand-3 p P L L′ ts ts′ h = rw (joint-record L ts a P (h .party), record′) agree
   where
     a : JointAccepted L ts
-    a = joint-of p L ts (h .checks) (joint-accepted L ts (h .run))
+    a = accepted-of p L (h .checks) (joint-accepted L ts (h .run))
 
     a′ : JointAccepted L′ ts′
-    a′ = joint-of p L′ ts′ (ap checked (h .program) ∙ h .checks) (joint-accepted L′ ts′ (h .run′))
+    a′ = accepted-of p L′ (ap checked (h .program) ∙ h .checks) (joint-accepted L′ ts′ (h .run′))
 
     S : Setting
     S = settingOf p L

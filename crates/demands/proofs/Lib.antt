@@ -1,7 +1,6 @@
 pub mod Sliced
 pub mod Quiet
 pub mod Brought
-pub mod CallCases
 pub mod Stops
 pub mod Demand1
 pub mod Fits

@@ -19,14 +19,14 @@ use Rattle.rules.specs.Books.{Books, roomFor}
 use Rattle.rules.specs.Single.{Setting, Single, going, ended, stopped, allOf, noteAll, arrive, settleAll, readAll, perform, step, run, after}
 use Rattle.rules.specs.Joint.{Turned, allFinished}
 use Rattle.rules.specs.Lent.{Lent, Left, leftBy, unchanged}
-use Rattle.rules.specs.Calls.{SingleAnswer, JointAnswer, complete, stillOpen, settingOf, singleLeft, singleCall, jointLeft, jointCall}
+use Rattle.rules.specs.Calls.{SingleAnswer, JointAnswer, complete, stillOpen, settingOf, singleLeft, singleOf, singleCall, jointLeft, jointOf, jointCall}
+use Rattle.rules.specs.CallLaws.{Ends, refused, ran, call-ends}
 use Rattle.rules.specs.declared.effects.View.the-variants.{Whole}
 use Rattle.rules.specs.declared.effects.Move.{Move}
 use Rattle.rules.specs.declared.effects.Offer.the-variants.{Empty, Secret}
 use Rattle.rules.specs.declared.effects.Effect.{Effect}
 use Rattle.rules.specs.declared.effects.Effect.the-variants.{Refuse, Goes, Reads, Writes, Meets}
 use Rattle.demands.specs.Demand1.{StopNumber, SingleNumber, JointNumber}
-use Rattle.demands.proofs.CallCases.{single-cases, joint-cases}
 
 -- what a rule refuses with
 abbrev Refuses : Effect → Type 0
@@ -114,10 +114,12 @@ left-number n L (ended t v b) h = tt
 left-number n L (stopped t refusal e b) h = h
 
 pub single-number : (L : Lent) (budget : ℕ) → SingleNumber (singleCall L budget .answer)
-unfolding unchanged after
-single-number L budget =
-    single-cases L budget (λ (X : Left SingleAnswer). SingleNumber (X .answer)) (λ number place h. h)
-    (λ p. left-number (p .parties) L _ (run-stops (settingOf p L) budget _ tt))
+unfolding singleCall singleOf unchanged after
+single-number L budget = go (call-ends (singleOf L budget) L)
+  where
+    go : {x : Left SingleAnswer} → Ends (singleOf L budget) L x → SingleNumber (x .answer)
+    go (refused number k w) = k
+    go (ran a) = left-number (a .program .parties) L _ (run-stops (settingOf (a .program) L) budget _ tt)
 
 open-number : (n : ℕ) (L : Lent) (t : Turned) → JointNumber (jointLeft n L t .answer)
 unfolding jointLeft leftBy
@@ -128,5 +130,9 @@ open-number n L t = go (allFinished n (t .sites))
     go false = tt
 
 pub joint-number : (L : Lent) (ts : List ℕ) → JointNumber (jointCall L ts .answer)
-unfolding unchanged
-joint-number L ts = joint-cases L ts (λ (X : Left JointAnswer). JointNumber (X .answer)) (λ number place h. h) (λ p. open-number (p .parties) L _)
+unfolding jointCall jointOf unchanged
+joint-number L ts = go (call-ends (jointOf L ts) L)
+  where
+    go : {x : Left JointAnswer} → Ends (jointOf L ts) L x → JointNumber (x .answer)
+    go (refused number k w) = k
+    go (ran a) = open-number (a .program .parties) L _

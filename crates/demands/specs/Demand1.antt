@@ -17,7 +17,8 @@ use Rattle.order.specs.declared.Order.{Order}
 use Rattle.reader.specs.Next.{placeAfter}
 use Rattle.reader.specs.declared.Reader.{Reader}
 use Rattle.rules.specs.Lent.{Lent, Left}
-use Rattle.refusals.specs.Numbers.{badProgram, tooLittleLent, nameUnbound, tooDeep}
+use Rattle.refusals.specs.Numbers.{nameUnbound, tooDeep}
+use Rattle.rules.specs.CallLaws.{RefusalNumber}
 use Rattle.rules.specs.Calls.{singleCall, jointCall, SingleAnswer, stoppedAt, endedAfter, budgetUsed, JointAnswer, complete, stillOpen}
 use Rattle.single.specs.Runs as Single
 use Rattle.single.specs.declared.runs.Answer as Single′
@@ -34,10 +35,6 @@ pub record Untouched {A : Type 0} (L : Lent) (X : Left A) : Type 0 where
 -- "5 to 10 stop the single run"
 abbrev pub StopNumber : ℕ → Type 0
 StopNumber number = (nameUnbound ≤ number) × (number ≤ tooDeep)
-
--- "1 to 4 refuse the call"
-abbrev pub RefusalNumber : ℕ → Type 0
-RefusalNumber number = (badProgram ≤ number) × (number ≤ tooLittleLent)
 
 abbrev pub SingleNumber : SingleAnswer → Type 0
 SingleNumber (SingleAnswer.refused number place) = RefusalNumber number

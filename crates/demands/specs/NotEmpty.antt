@@ -2,13 +2,14 @@
 use Prim.Native.Nat.{ℕ}
 use mathlib.Core.Path.{_≡_}
 use mathlib.Core.List.{List, [], _∷_}
-use lib.IntN.{ℤ, pos}
-use lib.ListN.{length, replicate}
+use lib.IntN.{pos}
+use lib.ListN.{length}
 use Rattle.program.specs.Check.{Program}
 use Rattle.nodes.specs.declared.Node.the-variants.{READ, SHARE, REVEAL, LET, PAR}
 use Rattle.refusals.specs.Numbers.{tooLittleLent}
 use Rattle.rules.specs.Lent.{Lent}
 use Rattle.rules.specs.Calls.{endedAfter, refused, complete, stillOpen, singleCall, jointCall}
+use Rattle.rules.specs.Worked.{lent, turns}
 use Rattle.invariants.specs.Accepted.{IsJointRun}
 use Rattle.invariants.specs.Left.{recordOf}
 use Rattle.demands.specs.Rounds.{Rounds}
@@ -16,11 +17,7 @@ use Rattle.demands.specs.Opened.{Agree}
 use Rattle.demands.specs.Demand2.{Equal}
 use Rattle.demands.specs.Demand3.{openedIn, Alike}
 
--- "Program, in hex", and the nodes that the check finds in it
-unfoldable pub bytes : List ℕ
-bytes = 0x00 ∷ 0x02 ∷ 0x05 ∷ 0x0c ∷ 0x01 ∷ 0x00 ∷ 0x00 ∷ 0x00 ∷ 0x08 ∷ 0x00 ∷ 0x02 ∷ 0x00 ∷ 0x00 ∷ 0x09 ∷ 0x01 ∷ 0x00 ∷ 0x01
-    ∷ 0x0a ∷ 0x01 ∷ 0x02 ∷ 0x00 ∷ 0x03 ∷ 0x00 ∷ 0x0a ∷ 0x00 ∷ 0x01 ∷ 0x00 ∷ 0x04 ∷ 0x00 ∷ []
-
+-- the nodes that the check finds in it
 unfoldable pub example : Program
 example =
     record {
@@ -33,11 +30,6 @@ example =
           ∷ LET (record { index = 0 }) 1 4
           ∷ [];
     }
-
--- "Counts 1 and 0", an input, and so many record bytes, length places and bytes of working area
-unfoldable pub lent : ℤ → (room places area : ℕ) → Lent
-lent i room places area =
-    record { program = bytes; counts = 1 ∷ 0 ∷ []; inputs = i ∷ []; records = replicate room 170; lengths = replicate places 9; work = replicate area 85 }
 
 -- as little as a single run takes; more of everything, but the same room of 26 for each record; and 8 for 7 at party 0
 unfoldable pub least : Lent
@@ -53,10 +45,7 @@ other = lent (pos 8) 52 2 32768
 unfoldable pub short : Lent
 short = lent (pos 7) 52 1 32768
 
--- the worked example's turns, too few for six rounds; six rounds; and turns that end before the REVEAL
-abbrev pub first : List ℕ
-first = 0 ∷ 0 ∷ 0 ∷ 0 ∷ 0 ∷ 1 ∷ 1 ∷ 1 ∷ 1 ∷ 0 ∷ []
-
+-- six rounds, of which the worked example's turns are too few; and turns that end before the REVEAL
 abbrev pub inRounds : List ℕ
 inRounds = 0 ∷ 1 ∷ 1 ∷ 0 ∷ 0 ∷ 1 ∷ 1 ∷ 0 ∷ 0 ∷ 1 ∷ 1 ∷ 0 ∷ []
 
@@ -65,7 +54,7 @@ early = 1 ∷ 1 ∷ 1 ∷ 0 ∷ 0 ∷ 0 ∷ 0 ∷ 0 ∷ []
 
 pub record NotEmpty : Type 0 where
   -- ---- demand 1: a call that is refused; those below are not
-  pub refuses : jointCall short first .answer ≡ refused tooLittleLent 0
+  pub refuses : jointCall short turns .answer ≡ refused tooLittleLent 0
   -- ---- demand 2: its premises
   pub equal : Equal example least more
   pub ends : singleCall least 100 .answer ≡ endedAfter 6
@@ -73,18 +62,18 @@ pub record NotEmpty : Type 0 where
   pub accepted : IsJointRun (jointCall more inRounds .answer)
   -- so it gives the answer; turns that are fewer can do as well; and the sites' records are not one record
   pub rounds-answer : jointCall more inRounds .answer ≡ complete 9
-  pub first-answer : jointCall more first .answer ≡ complete 9
+  pub first-answer : jointCall more turns .answer ≡ complete 9
   pub sites-differ : recordOf 2 0 (jointCall more inRounds) ≡ recordOf 2 1 (jointCall more inRounds) → ⊥
   -- ---- demand 3: its premises at site 1, with other inputs at site 0 and other turns, one run complete and one not
-  pub alike-1 : Alike example 1 more other first early
+  pub alike-1 : Alike example 1 more other turns early
   pub early-answer : jointCall other early .answer ≡ stillOpen 8
   -- so one record begins the other, and it is the shorter one
-  pub agree-1 : Agree (recordOf 2 1 (jointCall more first)) (recordOf 2 1 (jointCall other early))
-  pub length-first : length (recordOf 2 1 (jointCall more first)) ≡ 17
+  pub agree-1 : Agree (recordOf 2 1 (jointCall more turns)) (recordOf 2 1 (jointCall other early))
+  pub length-first : length (recordOf 2 1 (jointCall more turns)) ≡ 17
   pub length-early : length (recordOf 2 1 (jointCall other early)) ≡ 4
   -- which is not so at site 0, whose inputs differ
-  pub apart-0 : Agree (recordOf 2 0 (jointCall more first)) (recordOf 2 0 (jointCall other early)) → ⊥
+  pub apart-0 : Agree (recordOf 2 0 (jointCall more turns)) (recordOf 2 0 (jointCall other early)) → ⊥
   -- its premises at site 0, to which a value is opened, with equal inputs and other turns
-  pub alike-0 : Alike example 0 more more first inRounds
-  pub opened-first : openedIn (recordOf 2 0 (jointCall more first)) ≡ pos 7 ∷ []
+  pub alike-0 : Alike example 0 more more turns inRounds
+  pub opened-first : openedIn (recordOf 2 0 (jointCall more turns)) ≡ pos 7 ∷ []
   pub opened-rounds : openedIn (recordOf 2 0 (jointCall more inRounds)) ≡ pos 7 ∷ []

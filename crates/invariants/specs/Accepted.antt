@@ -1,14 +1,12 @@
 -- Calls that are accepted: none of the refusals 1 to 4 is met, and there is a run.
 use Prim.Native.Nat.{ℕ}
-use mathlib.Core.Path.{_≡_}
-use mathlib.Core.Bool.{true}
 use mathlib.Core.List.{List}
 use mathlib.Core.Option.{none}
-use Rattle.program.specs.Check.{Program, good, checked}
-use Rattle.rules.specs.Lent.{Lent, inputsOf, countsFit, enoughLent}
+use Rattle.program.specs.Check.{Program}
+use Rattle.rules.specs.Lent.{Lent, inputsOf}
 use Rattle.rules.specs.Single.{Single, after}
 use Rattle.rules.specs.Joint.{Turned, runTurns, startAll}
-use Rattle.rules.specs.Calls.{SingleAnswer, stoppedAt, endedAfter, budgetUsed, JointAnswer, complete, stillOpen, settingOf, badTurnFrom}
+use Rattle.rules.specs.Calls.{Accepted, SingleAnswer, stoppedAt, endedAfter, budgetUsed, JointAnswer, complete, stillOpen, settingOf, badTurnFrom}
 
 -- the two runs of a program in what was lent
 abbrev pub singleRun : Program → Lent → (budget : ℕ) → Single
@@ -18,19 +16,12 @@ abbrev pub jointRun : Program → Lent → (turns : List ℕ) → Turned
 jointRun p L turns = runTurns (settingOf p L) turns (startAll (settingOf p L) (inputsOf L))
 
 -- the single call runs
-pub record SingleAccepted (L : Lent) : Type 0 where
-  pub program : Program
-  pub checks : checked (L .program) ≡ good program
-  pub counts : countsFit (program .parties) L ≡ true
-  pub lent : enoughLent (program .parties) 1 L ≡ true
+abbrev pub SingleAccepted : Lent → Type 0
+SingleAccepted L = Accepted (λ n. 1) (λ n. none) L
 
 -- the joint call runs
-pub record JointAccepted (L : Lent) (ts : List ℕ) : Type 0 where
-  pub program : Program
-  pub checks : checked (L .program) ≡ good program
-  pub counts : countsFit (program .parties) L ≡ true
-  pub turns : badTurnFrom (program .parties) 0 ts ≡ none
-  pub lent : enoughLent (program .parties) (program .parties) L ≡ true
+abbrev pub JointAccepted : Lent → (turns : List ℕ) → Type 0
+JointAccepted L turns = Accepted (λ n. n) (λ n. badTurnFrom n 0 turns) L
 
 -- answers other than a refusal of the call
 abbrev pub IsSingleRun : SingleAnswer → Type 0

@@ -4,6 +4,7 @@ use mathlib.Core.List.{List}
 use Prim.Native.Nat.{ℕ}
 use Rattle.rules.specs.Lent.{Left}
 use Rattle.rules.specs.Calls.{JointAnswer, refused, complete, stillOpen}
+use Rattle.rules.specs.CallLaws.{one-left}
 use Rattle.joint.specs.Runs.{told, Is}
 use Rattle.joint.specs.declared.runs.Answer.{Answer}
 use Rattle.joint.specs.declared.runs.Answer.the-variants as Answer′
@@ -22,4 +23,5 @@ untold-told (Answer′.Open turns) = refl
 
 pub one-answer : (x : Left JointAnswer) (a a′ : Answer) (rs rs′ ls ls′ w w′ : List ℕ) → Is x a rs ls w → Is x a′ rs′ ls′ w′ → (a ≡ a′) × (rs ≡ rs′) × (ls ≡ ls′) × (w ≡ w′)
 one-answer x a a′ rs rs′ ls ls′ w w′ i j =
-    (sym (untold-told a) ∙ ap untold (i .answer ∙ sym (j .answer)) ∙ untold-told a′, i .records ∙ sym (j .records), i .lengths ∙ sym (j .lengths), i .work ∙ sym (j .work))
+    let (told-same, records, lengths, work) = one-left i j in
+    (sym (untold-told a) ∙ ap untold told-same ∙ untold-told a′, records, lengths, work)

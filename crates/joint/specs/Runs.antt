@@ -8,6 +8,7 @@ use lib.ListN.{length, getD}
 use Rattle.program.specs.Check.{Program, good, checked}
 use Rattle.records.specs.Events.{heldBack}
 use Rattle.rules.specs.Joint.{Sites, Turned, runTurns, startAll, allFinished, bookOf}
+use Rattle.rules.specs.Lent as Lent
 use Rattle.rules.specs.Lent.{Lent, Left, inputsOf}
 use Rattle.rules.specs.Calls.{JointAnswer, refused, complete, stillOpen}
 use Rattle.ledger.specs.Ledger.{Holds}
@@ -41,8 +42,5 @@ pub record Drives (bs : List ℕ) (n nodes room : ℕ) (counts : List ℕ) (is :
       → Finishes a room n (runTurns (settingOf p room) ts (startAll (settingOf p room) (inputsOf L))) xs ls xs′ ls′
 
 -- everything that a call leaves
-pub record Is (x : Left JointAnswer) (a : Answer) (rs ls w : List ℕ) : Type 0 where
-  pub answer : told a ≡ x .answer
-  pub records : rs ≡ x .records
-  pub lengths : ls ≡ x .lengths
-  pub work : w ≡ x .work
+abbrev pub Is : Left JointAnswer → Answer → (rs ls w : List ℕ) → Type 0
+Is left a rs ls w = Lent.Is left (told a) rs ls w

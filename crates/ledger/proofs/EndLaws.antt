@@ -49,8 +49,8 @@ module _ (R : ℕ) (m : PartySet) (e : Event) (b : Books) (P : ℕ) (o : mayNote
   unfolding roomFor
   noted-fits l = noted-spare R m (some e) b P (λ i. has i) l
 
-pub note-end : (R n : ℕ) (m : PartySet) (e : Event) (xs ls xs′ ls′ : List ℕ) → Going R n (noting R m e) n xs ls xs′ ls′ → NotesAll R n m e xs ls xs′ ls′
-note-end R n m e xs ls xs′ ls′ g =
+pub note-end : {R n : ℕ} {m : PartySet} {e : Event} {xs ls xs′ ls′ : List ℕ} → Going R n (noting R m e) xs ls n xs′ ls′ → NotesAll R n m e xs ls xs′ ls′
+note-end {R} {n} {m} {e} {xs} {ls} {xs′} {ls′} g =
     record {
       holds = λ b xs₀ ls₀ x l h f r.
           let may : (P : ℕ) → P < n → mayNote R m e P (used (b P)) ≡ true = λ P q.
@@ -71,8 +71,8 @@ finishing-bounded R v P u l = go (leb (u + heldBack) R) refl
         rw (finishing-one R v P u k, finished-length (slice P v)) k
     go false h = rw (finishing-none R v P u (leb-false (u + heldBack) R h)) (omega arith)
 
-pub finish-end : (R n : ℕ) (v : Value) (xs ls xs′ ls′ : List ℕ) → Going R n (finishing R v) n xs ls xs′ ls′ → FinishesAll R n v xs ls xs′ ls′
-finish-end R n v xs ls xs′ ls′ g =
+pub finish-end : {R n : ℕ} {v : Value} {xs ls xs′ ls′ : List ℕ} → Going R n (finishing R v) xs ls n xs′ ls′ → FinishesAll R n v xs ls xs′ ls′
+finish-end {R} {n} {v} {xs} {ls} {xs′} {ls′} g =
     record {
       holds = λ b xs₀ ls₀ x l h f.
           holds-same R n (partly (finishing R v) n b) (λ P. add (finished (slice P v)) (b P)) xs₀ ls₀ xs′ ls′ (g .holds b xs₀ ls₀ l h f)

@@ -12,6 +12,7 @@ use Rattle.records.specs.Events.{written}
 use Rattle.records.specs.EventLaws.{written-append}
 use Rattle.records.specs.declared.events.Event.{Event}
 use Rattle.rules.specs.Books.{Book, Books, used}
+use Rattle.invariants.proofs.RowLaws.{rows}
 use Rattle.ledger.specs.Ledger.{Holds, Fits}
 use Rattle.ledger.specs.Writes.{Writes}
 use Rattle.ledger.proofs.RowLaws.{Grew, holds-same, holds-length, holds-more}
@@ -53,25 +54,31 @@ used-is : (b b′ : Book) → written (b .events) ≡ written (b′ .events) →
 unfolding used
 used-is b b′ e = rw e
 
--- from the bytes xs and lengths ls on, the parties below k have written
-pub record Going (R n : ℕ) (w : Writer) (k : ℕ) (xs ls xs′ ls′ : List ℕ) : Type 0 where
+-- from the bytes xs and lengths ls on, the parties below k of n have written
+pub record Going (R n : ℕ) (w : Writer) (xs ls : List ℕ) (k : ℕ) (xs′ ls′ : List ℕ) : Type 0 where
+  pub within : k ≤ n
   pub long : length xs′ ≡ length xs
   pub places : length ls′ ≡ length ls
   pub holds : (b : Books) (xs₀ ls₀ : List ℕ) → n ≤ length ls₀ → Holds R n b xs₀ ls₀ xs ls → Fits R n b → Holds R n (partly w k b) xs₀ ls₀ xs′ ls′
 
-module _ (R n : ℕ) (w : Writer) (xs ls : List ℕ) where
-  pub go-none : Going R n w 0 xs ls xs ls
-  go-none =
-      record {
-        long = refl;
-        places = refl;
-        holds = λ b xs₀ ls₀ l h f. holds-same R n b (partly w 0 b) xs₀ ls₀ xs ls h (λ P q. partly-above w 0 b P (omega arith));
-      }
+pub go-none : {R n : ℕ} {w : Writer} {xs ls : List ℕ} → Going R n w xs ls 0 xs ls
+go-none {R} {n} {w} {xs} {ls} =
+    record {
+      within = omega arith;
+      long = refl;
+      places = refl;
+      holds = λ b xs₀ ls₀ l h f. holds-same R n b (partly w 0 b) xs₀ ls₀ xs ls h (λ P q. partly-above w 0 b P (omega arith));
+    }
 
-  pub go-more : (k : ℕ) (xs′ ls′ xs″ ls″ : List ℕ) → k < n → Bounded R w → Going R n w k xs ls xs′ ls′ → Writes R k (written (w k (getD ls′ k 0))) xs′ ls′ xs″ ls″
-      → Going R n w (k + 1) xs ls xs″ ls″
-  go-more k xs′ ls′ xs″ ls″ q i g s =
+module _ {R n : ℕ} {w : Writer} {xs ls : List ℕ} {k : ℕ} {xs′ ls′ : List ℕ} (g : Going R n w xs ls k xs′ ls′) where
+  -- party k's record and length are there to be written
+  pub go-fits : k < n → n * R ≤ length xs → n ≤ length ls → (k * R + R ≤ length xs′) × (k < length ls′)
+  go-fits q x l = (omega (arith, rows k n R q, g .long), omega (arith, g .places))
+
+  pub go-more : {xs″ ls″ : List ℕ} → k < n → Bounded R w → Writes R k (written (w k (getD ls′ k 0))) xs′ ls′ xs″ ls″ → Going R n w xs ls (k + 1) xs″ ls″
+  go-more {xs″} {ls″} q i s =
       record {
+        within = omega arith;
         long = ap length (s .bytes) ∙ length-sets xs′ (k * R + getD ls′ k 0) (written (w k (getD ls′ k 0))) ∙ g .long;
         places = ap length (s .lengths) ∙ length-set ls′ k (getD ls′ k 0 + length (written (w k (getD ls′ k 0)))) ∙ g .places;
         holds = λ b xs₀ ls₀ l h f.
@@ -81,3 +88,7 @@ module _ (R n : ℕ) (w : Writer) (xs ls : List ℕ) where
             let r : used (b k) + length (written (w k (used (b k)))) ≤ R = i k (used (b k)) (omega (arith, f k q)) in
             holds-more R n (partly w k b) (partly w (k + 1) b) xs₀ ls₀ xs′ ls′ p k (written (w k (used (b k)))) xs″ ls″ q l (rw a r) (partly-more w k b) (rw u at s);
       }
+
+  -- past the last party, all have written
+  pub go-all : n ≤ k → Going R n w xs ls n xs′ ls′
+  go-all h = let e : k ≡ n = omega (arith, g .within) in rw e at g

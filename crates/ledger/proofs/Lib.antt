@@ -6,3 +6,4 @@ pub mod LedgerLaws
 pub mod EndLaws
 pub mod OpeningLaws
 pub mod LentLaws
+pub mod CallLaws

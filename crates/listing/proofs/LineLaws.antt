@@ -1,14 +1,13 @@
 -- How long the parts of the lines are, and bytes after a space. Assumes nothing.
-use mathlib.Core.Path.{_≡_, refl}
-use Prim.Native.Nat.{ℕ, _+_, _*_, _≤_}
-use mathlib.Core.List.{List, [], _∷_, _++_}
+use Prim.Native.Nat.{ℕ, _+_, _≤_}
+use mathlib.Core.List.{List}
 use native.Mathlib.Omega.{arith}
 use lib.ListN.{length, length-append, length-drop}
 use Rattle.order.specs.Order.{beyond, orderOf, continued}
 use Rattle.order.specs.declared.Order.{Order}
 use Rattle.order.specs.declared.Order.the-variants.{FirstLonger, SecondLonger, Equal, Neither}
-use Rattle.text.specs.Text.{ascii, hex}
-use Rattle.text.specs.TextLaws.{decimal-short, hex-length, spaced-short}
+use Rattle.text.specs.Text.{ascii}
+use Rattle.text.specs.TextLaws.{decimal-short}
 use Rattle.listing.specs.Lines.{marked, orderWord}
 
 pub marked-short : (mark : List ℕ) (x y : ℕ) → length (marked mark x y) ≤ length mark + 41

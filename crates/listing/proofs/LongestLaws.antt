@@ -6,17 +6,18 @@ use mathlib.Core.List.{List, [], _∷_}
 use native.Mathlib.Omega.{arith}
 use lib.ListN.{length, length-append}
 use Rattle.refusals.specs.Numbers.{notAnEvent}
-use Rattle.records.specs.Events.{eventBytes}
+use Rattle.records.specs.Events.{eventBytes, kindOf}
+use Rattle.records.specs.EventLaws.{event-long}
 use Rattle.walk.specs.Walk.{isEventKind, bodyWidth, eventFrom, isWhole, stops, andThen, walkFrom, walk}
 use Rattle.walk.specs.WalkLaws.{whole-fits}
 use Rattle.order.specs.Order.{orderOf, continued}
 use Rattle.walk.proofs.StepLaws.{kind-range}
 use Rattle.text.specs.Text.{ascii}
 use Rattle.text.specs.TextLaws.{decimal-short, spaced-short}
-use Rattle.listing.specs.Lines.{caseLine, kindOf, walkWords, walkLine, orderLine}
+use Rattle.listing.specs.Lines.{caseLine, walkWords, walkLine, orderLine}
 use Rattle.listing.specs.Most.{mostOfCase, mostOfMarked, mostOfWalk, mostOfOrder}
 use Rattle.listing.proofs.LineLaws.{marked-short, word-short, continued-short}
-use Rattle.listing.proofs.WalkedLaws.{event-long, of-kind}
+use Rattle.listing.proofs.WalkedLaws.{of-kind}
 
 pub case-short : (number : ℕ) → length (caseLine number) ≤ mostOfCase
 unfolding caseLine ascii

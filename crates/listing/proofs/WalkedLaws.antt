@@ -8,33 +8,19 @@ use lib.Dec.{leb}
 use lib.ListN.{length, getD, drop, length-append}
 use Rattle.refusals.specs.Numbers.{notAnEvent}
 use Rattle.words.specs.Words.{lowFirst}
-use Rattle.records.specs.Events.{eventBytes}
-use Rattle.records.specs.EventLaws.{sized, event-length}
+use Rattle.records.specs.Events.{eventBytes, kindOf}
+use Rattle.records.specs.EventLaws.{event-long}
 use Rattle.walk.specs.Walk.{isEventKind, bodyWidth, eventFrom, isWhole, event, end, refused, stepOf, stepAnswer, walkFrom, walk}
 use Rattle.walk.specs.WalkLaws.{walk-steps, step-on}
 use Rattle.walk.proofs.StepLaws.{kind-range}
 use Rattle.records.specs.declared.events.Event.{Event}
-use Rattle.records.specs.declared.events.Event.the-variants.{Read, Wrote, Shared, Opened, Passed, Finished, Stopped}
 use Rattle.text.specs.Text.{ascii, Puts}
 use Rattle.text.specs.TextLaws.{puts-nothing, puts-then, puts-length}
-use Rattle.listing.specs.Lines.{kindOf, marked, walkWords, walkLine}
+use Rattle.listing.specs.Lines.{marked, walkWords, walkLine}
 use Rattle.listing.specs.Most.{mostOfWalk}
 use Rattle.listing.proofs.LineLaws.{marked-short}
 
 -- ---- the event that a step finds
-
--- an event takes 3 bytes or more
-pub event-long : (e : Event) → 3 ≤ length (eventBytes e)
-event-long e = rw (event-length e) (go e)
-  where
-    go : (e : Event) → 3 ≤ sized e
-    go (Read i) = omega arith
-    go (Wrote i) = omega arith
-    go (Shared a q) = omega arith
-    go (Opened q i) = omega arith
-    go (Passed q) = omega arith
-    go (Finished tag i l h) = omega arith
-    go (Stopped refusal node) = omega arith
 
 -- an event read is of the kind that it was read by, and takes the width of that kind
 pub record OfKind (kind : ℕ) (e : Event) : Type 0 where

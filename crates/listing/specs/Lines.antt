@@ -1,11 +1,10 @@
 -- The lines of a case of two records: its number, the walk of each, and which goes on beyond the other, in ASCII codes. Assumes nothing.
 use Prim.Native.Nat.{ℕ, _+_}
-use mathlib.Core.List.{List, [], _∷_, _++_}
-use lib.ListN.{length, getD}
-use Rattle.records.specs.Events.{eventBytes}
+use mathlib.Core.List.{List, _++_}
+use lib.ListN.{length}
+use Rattle.records.specs.Events.{eventBytes, kindOf}
 use Rattle.walk.specs.Walk.{Walked, ends, stops, andThen, walk}
 use Rattle.order.specs.Order.{orderOf, continued}
-use Rattle.records.specs.declared.events.Event.{Event}
 use Rattle.order.specs.declared.Order.{Order}
 use Rattle.order.specs.declared.Order.the-variants.{FirstLonger, SecondLonger, Equal, Neither}
 use Rattle.text.specs.Text.{ascii, decimal, hex, spaced}
@@ -15,10 +14,6 @@ unfoldable pub caseLine : ℕ → List ℕ
 caseLine number = ascii "case " ++ (decimal number ++ ascii "\n")
 
 -- ---- the walk of a record
-
--- the kind is the first byte of an event
-abbrev pub kindOf : Event → ℕ
-kindOf e = getD (eventBytes e) 0 0
 
 -- a space and two numbers with a mark between them
 unfoldable pub marked : (mark : List ℕ) → ℕ → ℕ → List ℕ

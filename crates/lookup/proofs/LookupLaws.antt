@@ -3,7 +3,7 @@ use mathlib.Core.Path.{_≡_, refl, sym, ap, _∙_}
 use mathlib.Core.List.{List, [], _∷_}
 use Prim.Native.Nat.{ℕ, zero, suc, _+_, _*_, _≤_, _<_}
 use native.Mathlib.Omega.{arith}
-use lib.ListN.{length, getD, take, List·getD-eq-default}
+use lib.ListN.{take, List·getD-eq-default}
 use Rattle.limits.specs.declared.Name.{Name}
 use Rattle.parties.specs.declared.sets.PartySet.{PartySet}
 use Rattle.values.specs.Values.{restrict}
@@ -14,14 +14,12 @@ use Rattle.cells.specs.declared.Bound.{Bound}
 use Rattle.cells.specs.declared.Bound.the-variants.{Unbound, To}
 use Rattle.nodes.specs.declared.Node.{Node}
 use Rattle.nodes.specs.declared.Node.the-variants.{VAR, INT, OP, MUX, READ, WRITE, EMBED, SHARE, REVEAL, LET, CASE, PAR, CALL}
-use Rattle.rules.specs.Names.{Names, Looked, found, unbound, restricted, look, before, lookAll, namesOf}
+use Rattle.rules.specs.Names.{Names, Looked, found, unbound, restricted, look, lookAll, namesOf}
 use Rattle.rules.specs.Rules.{judge, withValues, rule}
 use Rattle.rules.specs.declared.bindings.Binding.{Binding}
 use Rattle.rules.specs.declared.effects.View.{View}
-use Rattle.rules.specs.declared.effects.Effect.{Effect}
 use Rattle.area.specs.Levels.{levelAt, namesAt}
 use Rattle.lookup.specs.Lookup.{soughtOf, listed, three, padded}
-use Rattle.lookup.specs.declared.Sought.{Sought}
 use Rattle.lookup.specs.declared.Sought.the-variants as Sought′
 use Rattle.lookup.specs.declared.Reading.{Reading}
 use Rattle.area.proofs.LevelLaws.{names-length, names-get}

@@ -1,7 +1,8 @@
 // The names of a node, all looked up at once in the mode, and what its rule then asks for.
 ghost use mathlib.Core.Path.{_≡_};
 ghost use Prim.Native.Nat.{_≤_};
-ghost use lib.ListN.{length};
+ghost use mathlib.Core.List.{[], _∷_};
+ghost use lib.ListN.{length, take};
 ghost use Rattle.limits.specs.Limits.{maxFrames};
 ghost use Rattle.rules.specs.Names.{look, lookAll, namesOf};
 ghost use Rattle.rules.specs.Rules.{rule};
@@ -55,7 +56,7 @@ pub struct Reading {
 }
 
 fn reading_of(many: u8, x: Name, y: Name, z: Name) -> Reading
-    ensures { λ r. ⌜ r ≡ record { many = many; x = x; y = y; z = z } ⌝ }
+    ensures { λ r. ⌜ listed r ≡ take many (x ∷ y ∷ z ∷ []) ⌝ }
 {
     Reading { many, x, y, z }
 }

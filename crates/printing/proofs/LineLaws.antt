@@ -1,13 +1,13 @@
 -- How long the lines are, and the parties' lines put one by one. Assumes nothing.
-use mathlib.Core.Path.{_≡_, refl}
+use mathlib.Core.Path.{_≡_}
 use Prim.Native.Nat.{ℕ, zero, suc, _+_, _*_, _-_, _/_, _≤_, _<_}
-use mathlib.Core.List.{List, [], _∷_, _++_}
+use mathlib.Core.List.{List}
 use native.Mathlib.Nat.{suc-mul, mul-comm, mul-le-mul-right, div-mul-le-self}
 use native.Mathlib.Numerals.{add-one}
 use native.Mathlib.Omega.{arith}
 use lib.ListN.{length, getD, take, drop, length-append, length-take}
-use Rattle.text.specs.Text.{ascii, hex, Puts}
-use Rattle.text.specs.TextLaws.{decimal-short, hex-length, puts-nothing, puts-then, spaced-short}
+use Rattle.text.specs.Text.{ascii, Puts}
+use Rattle.text.specs.TextLaws.{decimal-short, puts-nothing, puts-then, spaced-short}
 use Rattle.invariants.specs.Left.{recordOf}
 use Rattle.printing.specs.Lines.{oneNumber, twoNumbers, partyLine, partyLines, recordLines}
 use Rattle.printing.specs.Shown.{Fit, mostOfParty, mostOfRecords, unanswered}

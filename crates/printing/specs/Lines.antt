@@ -1,6 +1,6 @@
 -- What `rehearse` prints of what a call leaves (document 01, "The program `rehearse`"), in ASCII codes. Assumes nothing.
 use Prim.Native.Nat.{ℕ, zero, suc}
-use mathlib.Core.List.{List, [], _∷_, _++_}
+use mathlib.Core.List.{List, [], _++_}
 use Rattle.rules.specs.Lent.{Left}
 use Rattle.rules.specs.Calls.{SingleAnswer, JointAnswer, refused, stoppedAt, endedAfter, budgetUsed, complete, stillOpen}
 use Rattle.invariants.specs.Left.{recordOf}

@@ -1,5 +1,6 @@
 // The lines of what a call leaves: its answer, and each party's record.
 ghost use Prim.Native.Nat.{_+_, _*_, _≤_};
+ghost use mathlib.Core.List.{_++_};
 ghost use lib.ListN.{length};
 ghost use Rattle.text.specs.Text.{Puts};
 ghost use Rattle.printing.specs.Lines.{oneNumber, twoNumbers, partyLine, recordLines, singleLines, jointLines};
@@ -52,6 +53,23 @@ fn put_records(n: u8, records: &[u8], lengths: &[usize], out: &mut [u8], at: usi
     to
 }
 
+// What a run with a count leaves: a line of a word and the count, and the lines of all n parties.
+fn put_counted(
+    word: &[u8],
+    count: u64,
+    n: u8,
+    records: &[u8],
+    lengths: &[usize],
+    out: &mut [u8],
+    at: usize,
+) -> usize
+    requires { ⌜ Fit n (now records) (now lengths) × (length (now word) ≤ 15) × (at + mostOfOne ≤ length (now out)) ⌝ }
+    ensures { λ r. ⌜ Puts (oneNumber (now (word .entry)) count ++ recordLines n (unanswered (now (records .entry)) (now (lengths .entry)))) at r (now (out .entry)) (now (out .exit)) ⌝ }
+{
+    let end = put_one(word, count, out, at);
+    put_records(n, records, lengths, out, end)
+}
+
 // What the single run leaves.
 pub fn put_single(
     answer: single::runs::Answer,
@@ -76,14 +94,24 @@ pub fn put_single(
             let end = put_two(b"single stopped ", number as u64, node as u64, out, at);
             put_records(n, records, lengths, out, end)
         }
-        single::runs::Answer::Ended(steps) => {
-            let end = put_one(b"single ended ", steps as u64, out, at);
-            put_records(n, records, lengths, out, end)
-        }
-        single::runs::Answer::Budget(steps) => {
-            let end = put_one(b"single budget ", steps as u64, out, at);
-            put_records(n, records, lengths, out, end)
-        }
+        single::runs::Answer::Ended(steps) => put_counted(
+            b"single ended ",
+            steps as u64,
+            n,
+            records,
+            lengths,
+            out,
+            at,
+        ),
+        single::runs::Answer::Budget(steps) => put_counted(
+            b"single budget ",
+            steps as u64,
+            n,
+            records,
+            lengths,
+            out,
+            at,
+        ),
     }
 }
 
@@ -107,13 +135,23 @@ pub fn put_joint(
             out,
             at,
         ),
-        joint::runs::Answer::Complete(turns) => {
-            let end = put_one(b"joint complete ", turns as u64, out, at);
-            put_records(n, records, lengths, out, end)
-        }
-        joint::runs::Answer::Open(turns) => {
-            let end = put_one(b"joint open ", turns as u64, out, at);
-            put_records(n, records, lengths, out, end)
-        }
+        joint::runs::Answer::Complete(turns) => put_counted(
+            b"joint complete ",
+            turns as u64,
+            n,
+            records,
+            lengths,
+            out,
+            at,
+        ),
+        joint::runs::Answer::Open(turns) => put_counted(
+            b"joint open ",
+            turns as u64,
+            n,
+            records,
+            lengths,
+            out,
+            at,
+        ),
     }
 }

@@ -10,7 +10,6 @@ use borrow.Author.Tests.{leb-true}
 use Rattle.records.specs.Events.{eventBytes, heldBack, hasRoom}
 use Rattle.records.specs.Append.{Appends}
 use Rattle.records.specs.declared.events.Event.{Event}
-use Rattle.records.specs.declared.events.Appended.{Appended}
 use Rattle.records.specs.declared.events.Appended.the-variants.{To, NoRoom}
 
 -- the event was written, and what is held back is left after it

@@ -45,18 +45,21 @@ unfolding written
 written-append [] fs = refl
 written-append (e ∷ es) fs = rw (written-append es fs, append-assoc)
 
--- no event takes more
+sized-within : (e : Event) → (3 ≤ sized e) × (sized e ≤ heldBack)
+sized-within (Read i) = (omega arith, omega arith)
+sized-within (Wrote i) = (omega arith, omega arith)
+sized-within (Shared a q) = (omega arith, omega arith)
+sized-within (Opened q i) = (omega arith, omega arith)
+sized-within (Passed q) = (omega arith, omega arith)
+sized-within (Finished tag i l h) = (omega arith, omega arith)
+sized-within (Stopped refusal node) = (omega arith, omega arith)
+
+-- no event takes more, and none less than three bytes
 pub event-short : (e : Event) → length (eventBytes e) ≤ heldBack
-event-short e = rw (event-length e) (go e)
-  where
-    go : (e : Event) → sized e ≤ heldBack
-    go (Read i) = omega arith
-    go (Wrote i) = omega arith
-    go (Shared a q) = omega arith
-    go (Opened q i) = omega arith
-    go (Passed q) = omega arith
-    go (Finished tag i l h) = omega arith
-    go (Stopped refusal node) = omega arith
+event-short e = rw (event-length e) (sized-within e .1)
+
+pub event-long : (e : Event) → 3 ≤ length (eventBytes e)
+event-long e = rw (event-length e) (sized-within e .0)
 
 -- what a value in its range finishes with is in range
 pub finished-ranged : (v : Value) → RangedValue v → Ranged (finished v)

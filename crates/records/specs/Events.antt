@@ -3,8 +3,8 @@ use Prim.Native.Nat.{ℕ, _+_}
 use mathlib.Core.Bool.{Bool}
 use mathlib.Core.List.{List, [], _∷_, _++_}
 use lib.Dec.{leb}
-use lib.IntN.{ℤ, pos}
-use lib.ListN.{length}
+use lib.IntN.{pos}
+use lib.ListN.{length, getD}
 use Rattle.words.specs.Words.{lowFirst, integerBytes}
 use Rattle.parties.specs.Sets.{none}
 use Rattle.parties.specs.SetBytes.{setBytes}
@@ -22,6 +22,10 @@ eventBytes (Opened q i) = 4 ∷ setBytes q ++ integerBytes i
 eventBytes (Passed q) = 5 ∷ setBytes q
 eventBytes (Finished tag i l h) = 6 ∷ tag ∷ integerBytes i ++ setBytes l ++ setBytes h
 eventBytes (Stopped refusal node) = 7 ∷ refusal ∷ lowFirst 2 node
+
+-- the kind is the first byte
+abbrev pub kindOf : Event → ℕ
+kindOf e = getD (eventBytes e) 0 0
 
 -- a record: its events, one after the other
 unfoldable pub written : List Event → List ℕ

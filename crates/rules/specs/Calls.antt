@@ -1,15 +1,48 @@
 -- The two calls, from everything lent to everything left: refusals 1 to 4 in their order, or the run.
 use Prim.Native.Nat.{ℕ, _+_}
-use mathlib.Core.Bool.{Bool, _&&_, cond}
+use mathlib.Core.Path.{_≡_}
+use mathlib.Core.Bool.{true, _&&_, cond}
 use mathlib.Core.List.{List, [], _∷_}
 use mathlib.Core.Option.{Option, none, some}
 use lib.Dec.{ltb}
 use Rattle.program.specs.Check.{Program, Checked, good, bad, checked}
 use Rattle.refusals.specs.Numbers.{badProgram, badCounts, badTurn, tooLittleLent}
-use Rattle.rules.specs.Books.{Books}
 use Rattle.rules.specs.Lent.{Lent, Left, unchanged, roomOf, inputsOf, countsFit, enoughLent, leftBy}
 use Rattle.rules.specs.Single.{Single, going, ended, stopped, Setting, after}
 use Rattle.rules.specs.Joint.{Turned, runTurns, startAll, allFinished, bookOf}
+
+abbrev pub settingOf : Program → Lent → Setting
+settingOf p L = record { program = p; room = roomOf (p .parties) L }
+
+-- ---- both calls
+
+-- what a call answers where it is refused, the working areas that it needs for n parties, the index of its first bad turn, and what its run leaves
+pub record Call (A : Type 0) : Type 0 where
+  pub refuse : (number place : ℕ) → A
+  pub areas : (n : ℕ) → ℕ
+  pub firstBad : (n : ℕ) → Option ℕ
+  pub run : Program → Left A
+
+abbrev pub unlessBadTurn : {A : Type 0} → Call A → Lent → Option ℕ → Left A → Left A
+unlessBadTurn c L none left = left
+unlessBadTurn c L (some index) left = unchanged L (c .refuse badTurn index)
+
+-- "1 to 4 refuse the call", in this order
+unfoldable pub callOf : {A : Type 0} → Call A → Lent → Checked → Left A
+callOf c L (bad place) = unchanged L (c .refuse badProgram place)
+callOf c L (good p) =
+    cond (countsFit (p .parties) L)
+    (unlessBadTurn c L (c .firstBad (p .parties))
+    (cond (enoughLent (p .parties) (c .areas (p .parties)) L) (c .run p) (unchanged L (c .refuse tooLittleLent 0))))
+    (unchanged L (c .refuse badCounts 0))
+
+-- none of them is met
+pub record Accepted (areas : ℕ → ℕ) (firstBad : ℕ → Option ℕ) (L : Lent) : Type 0 where
+  pub program : Program
+  pub checks : checked (L .program) ≡ good program
+  pub counts : countsFit (program .parties) L ≡ true
+  pub turns : firstBad (program .parties) ≡ none
+  pub lent : enoughLent (program .parties) (areas (program .parties)) L ≡ true
 
 -- ---- the single run
 
@@ -25,20 +58,17 @@ singleLeft n L (going t c b) = leftBy n L (budgetUsed t) b
 singleLeft n L (ended t v b) = leftBy n L (endedAfter t) b
 singleLeft n L (stopped t refusal e b) = leftBy n L (stoppedAt refusal e t) b
 
-abbrev pub settingOf : Program → Lent → Setting
-settingOf p L = record { program = p; room = roomOf (p .parties) L }
-
-unfoldable pub singleOf : Lent → ℕ → Checked → Left SingleAnswer
-singleOf L budget (bad place) = unchanged L (refused badProgram place)
-singleOf L budget (good p) =
-    cond (countsFit (p .parties) L)
-    (cond (enoughLent (p .parties) 1 L)
-    (singleLeft (p .parties) L (after (settingOf p L) (inputsOf L) budget))
-    (unchanged L (refused tooLittleLent 0)))
-    (unchanged L (refused badCounts 0))
+unfoldable pub singleOf : Lent → ℕ → Call SingleAnswer
+singleOf L budget =
+    record {
+      refuse = refused;
+      areas = λ n. 1;
+      firstBad = λ n. none;
+      run = λ p. singleLeft (p .parties) L (after (settingOf p L) (inputsOf L) budget);
+    }
 
 unfoldable pub singleCall : Lent → (budget : ℕ) → Left SingleAnswer
-singleCall L budget = singleOf L budget (checked (L .program))
+singleCall L budget = callOf (singleOf L budget) L (checked (L .program))
 
 -- ---- the joint run
 
@@ -59,19 +89,14 @@ badTurnFrom n i (t ∷ ts) = cond (ltb t n && ltb i maxTurns) (badTurnFrom n (i 
 unfoldable pub jointLeft : ℕ → Lent → Turned → Left JointAnswer
 jointLeft n L t = leftBy n L (cond (allFinished n (t .sites)) (complete (t .count)) (stillOpen (t .count))) (λ P. bookOf (t .sites P))
 
-abbrev pub unlessBadTurn : Lent → Option ℕ → Left JointAnswer → Left JointAnswer
-unlessBadTurn L none r = r
-unlessBadTurn L (some index) r = unchanged L (refused badTurn index)
-
-unfoldable pub jointOf : Lent → List ℕ → Checked → Left JointAnswer
-jointOf L turns (bad place) = unchanged L (refused badProgram place)
-jointOf L turns (good p) =
-    cond (countsFit (p .parties) L)
-    (unlessBadTurn L (badTurnFrom (p .parties) 0 turns)
-    (cond (enoughLent (p .parties) (p .parties) L)
-    (jointLeft (p .parties) L (runTurns (settingOf p L) turns (startAll (settingOf p L) (inputsOf L))))
-    (unchanged L (refused tooLittleLent 0))))
-    (unchanged L (refused badCounts 0))
+unfoldable pub jointOf : Lent → List ℕ → Call JointAnswer
+jointOf L turns =
+    record {
+      refuse = refused;
+      areas = λ n. n;
+      firstBad = λ n. badTurnFrom n 0 turns;
+      run = λ p. jointLeft (p .parties) L (runTurns (settingOf p L) turns (startAll (settingOf p L) (inputsOf L)));
+    }
 
 unfoldable pub jointCall : Lent → (turns : List ℕ) → Left JointAnswer
-jointCall L turns = jointOf L turns (checked (L .program))
+jointCall L turns = callOf (jointOf L turns) L (checked (L .program))

@@ -18,7 +18,7 @@ use Rattle.records.specs.declared.events.Event.{Event}
 use Rattle.records.specs.declared.events.Event.the-variants.{Read, Wrote, Stopped}
 use Rattle.rules.specs.Rules.{rule}
 use Rattle.rules.specs.Moves.{Control, Next, on, ends, full, start, move}
-use Rattle.rules.specs.Books.{Book, Books, opening, handed, eventOf, roomFor, add, note}
+use Rattle.rules.specs.Books.{Book, opening, handed, eventOf, roomFor, add, note}
 use Rattle.rules.specs.Single.{Setting, allOf}
 use Rattle.rules.specs.declared.effects.View.{View}
 use Rattle.rules.specs.declared.effects.View.the-variants as View′

@@ -1,11 +1,13 @@
 -- What is lent to a call and what is left of it (document 01, "Site records" and "Refusal numbers").
-use Prim.Native.Nat.{ℕ, zero, suc, _+_, _*_, _/_}
-use mathlib.Core.Bool.{Bool, true, _&&_}
-use mathlib.Core.List.{List, [], _∷_}
+use mathlib.Core.Path.{_≡_}
+use Prim.Native.Nat.{ℕ, zero, suc, _*_, _/_}
+use mathlib.Core.Bool.{Bool, _&&_}
+use mathlib.Core.List.{List}
 use lib.Dec.{eqb, leb}
 use lib.IntN.{ℤ}
 use lib.ListN.{length, getD, take, drop, set, replicate}
 use lib.Seq.{sets}
+unfoldable pub use Rattle.numbers.specs.Sums.{sum}
 use Rattle.records.specs.Events.{written, heldBack}
 use Rattle.rules.specs.Books.{Books, used}
 
@@ -24,6 +26,13 @@ pub record Left (A : Type 0) : Type 0 where
   pub lengths : List ℕ
   pub work : List ℕ
 
+-- the answer a, and the bytes rs, ls and w, are what is left
+pub record Is {A : Type 0} (left : Left A) (a : A) (rs ls w : List ℕ) : Type 0 where
+  pub answer : a ≡ left .answer
+  pub records : rs ≡ left .records
+  pub lengths : ls ≡ left .lengths
+  pub work : w ≡ left .work
+
 -- a refused call changes no lent byte
 unfoldable pub unchanged : {A : Type 0} → Lent → A → Left A
 unchanged L a = record { answer = a; records = L .records; lengths = L .lengths; work = L .work }
@@ -31,10 +40,6 @@ unchanged L a = record { answer = a; records = L .records; lengths = L .lengths;
 -- "Each party's room R is the lent record length divided by n, rounded down"
 unfoldable pub roomOf : ℕ → Lent → ℕ
 roomOf n L = length (L .records) / n
-
-unfoldable pub sum : List ℕ → ℕ
-sum [] = 0
-sum (k ∷ ks) = k + sum ks
 
 -- the inputs of party P: party 0's come first, as many as its count says
 unfoldable pub inputsOf : Lent → ℕ → List ℤ

@@ -1,11 +1,13 @@
 pub mod Names
 pub mod Rules
+pub mod RuleLaws
 pub mod Moves
 pub mod Books
 pub mod Single
 pub mod Joint
 pub mod Lent
 pub mod Calls
-pub mod RuleLaws
 pub mod RunLaws
+pub mod CallLaws
+pub mod Worked
 pub mod Marked

@@ -1,5 +1,4 @@
 -- The names of a node and what they are bound to. "Every name is read restricted to m."
-use Prim.Native.Nat.{ℕ}
 use mathlib.Core.List.{List, [], _∷_}
 use lib.ListN.{getD, set, replicate}
 use Rattle.limits.specs.Limits.{maxNames}

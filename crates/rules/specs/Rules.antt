@@ -23,11 +23,9 @@ use Rattle.refusals.specs.Numbers.{nameUnbound, wrongValue, wrongMode}
 use Rattle.rules.specs.Names.{Names, Looked, found, unbound, lookAll, namesOf, first, second, third}
 use Rattle.rules.specs.declared.effects.View.{View}
 use Rattle.rules.specs.declared.effects.View.the-variants.{Whole, Site}
-use Rattle.rules.specs.declared.effects.Move.{Move}
 use Rattle.rules.specs.declared.effects.Move.the-variants.{Hand, Down, Goto, Enter, Call}
 use Rattle.rules.specs.declared.effects.Meeting.{Meeting}
 use Rattle.rules.specs.declared.effects.Meeting.the-variants.{Sharing, Revealing}
-use Rattle.rules.specs.declared.effects.Offer.{Offer}
 use Rattle.rules.specs.declared.effects.Offer.the-variants.{Empty, Secret}
 use Rattle.rules.specs.declared.effects.Effect.{Effect}
 use Rattle.rules.specs.declared.effects.Effect.the-variants.{Refuse, Goes, Reads, Writes, Meets}

@@ -16,7 +16,7 @@ use Rattle.records.specs.declared.events.Event.{Event}
 use Rattle.records.specs.declared.events.Event.the-variants.{Read, Wrote}
 use Rattle.rules.specs.Rules.{rule}
 use Rattle.rules.specs.Moves.{Control, Next, on, ends, full, start, move}
-use Rattle.rules.specs.Books.{Book, Books, opening, handed, eventOf, roomFor, add, note}
+use Rattle.rules.specs.Books.{Books, opening, handed, eventOf, roomFor, add, note}
 use Rattle.rules.specs.declared.effects.View.the-variants.{Whole}
 use Rattle.rules.specs.declared.effects.Move.{Move}
 use Rattle.rules.specs.declared.effects.Move.the-variants.{Hand}

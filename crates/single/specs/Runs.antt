@@ -10,6 +10,7 @@ use Rattle.records.specs.Events.{heldBack}
 use Rattle.rules.specs.Books.{Books}
 use Rattle.rules.specs.Moves.{Control}
 use Rattle.rules.specs.Single.{Single, going, ended, stopped, run, after}
+use Rattle.rules.specs.Lent as Lent
 use Rattle.rules.specs.Lent.{Lent, Left, inputsOf}
 use Rattle.rules.specs.Calls.{SingleAnswer, refused, stoppedAt, endedAfter, budgetUsed}
 use Rattle.area.specs.Levels.{controlOf}
@@ -45,8 +46,5 @@ pub record Drives (bs : List ℕ) (n nodes room : ℕ) (counts : List ℕ) (is :
       → Finishes a room n xs ls (after (record { program = p; room = room }) (inputsOf L) budget) xs′ ls′
 
 -- everything that a call leaves
-pub record Is (x : Left SingleAnswer) (a : Answer) (rs ls w : List ℕ) : Type 0 where
-  pub answer : told a ≡ x .answer
-  pub records : rs ≡ x .records
-  pub lengths : ls ≡ x .lengths
-  pub work : w ≡ x .work
+abbrev pub Is : Left SingleAnswer → Answer → (rs ls w : List ℕ) → Type 0
+Is left a rs ls w = Lent.Is left (told a) rs ls w

@@ -6,6 +6,20 @@ use Rattle.rules.specs.Lent.{Left}
 use Rattle.rules.specs.Calls.{SingleAnswer, JointAnswer, refused, stoppedAt, endedAfter, budgetUsed, complete, stillOpen}
 use Rattle.threadmolar.specs.Answers.{ENDED, BUDGET, COMPLETE, OPEN, placeLimit, numbered}
 
+-- ---- both runs
+
+-- an answer is told: r is its number, and the place for the count, which held k, holds k′
+pub record Told (number : ℕ) (countLeft : ℕ → ℕ) (r k k′ : ℕ) : Type 0 where
+  pub number-is : r ≡ number
+  pub count-is : k′ ≡ countLeft k
+
+-- and the bytes rs, ls and w are what is left
+pub record Runs {A : Type 0} (T : (r k k′ : ℕ) → Type 0) (left : Left A) (r : ℕ) (rs ls w : List ℕ) (k k′ : ℕ) : Type 0 where
+  pub told : T r k k′
+  pub records : rs ≡ left .records
+  pub lengths : ls ≡ left .lengths
+  pub work : w ≡ left .work
+
 -- ---- the single run
 
 -- the number of its answer: a stop has its node where a refusal has its place
@@ -23,16 +37,12 @@ stepsLeft (endedAfter steps) held = steps
 stepsLeft (budgetUsed steps) held = steps
 
 -- the number and the steps
-pub record SingleTold (a : SingleAnswer) (r k k′ : ℕ) : Type 0 where
-  pub number : r ≡ singleNumber a
-  pub steps : k′ ≡ stepsLeft a k
+abbrev pub SingleTold : SingleAnswer → (r k k′ : ℕ) → Type 0
+SingleTold a = Told (singleNumber a) (stepsLeft a)
 
 -- the number, and everything that the call leaves
-pub record SingleRuns (x : Left SingleAnswer) (r : ℕ) (rs ls w : List ℕ) (k k′ : ℕ) : Type 0 where
-  pub told : SingleTold (x .answer) r k k′
-  pub records : rs ≡ x .records
-  pub lengths : ls ≡ x .lengths
-  pub work : w ≡ x .work
+abbrev pub SingleRuns : Left SingleAnswer → (r : ℕ) → (rs ls w : List ℕ) → (k k′ : ℕ) → Type 0
+SingleRuns left = Runs (SingleTold (left .answer)) left
 
 -- the place of a refusal fits the number
 abbrev pub SingleFits : SingleAnswer → Type 0
@@ -56,16 +66,12 @@ takenLeft (complete turns) held = turns
 takenLeft (stillOpen turns) held = turns
 
 -- the number and the turns taken
-pub record JointTold (a : JointAnswer) (r k k′ : ℕ) : Type 0 where
-  pub number : r ≡ jointNumber a
-  pub taken : k′ ≡ takenLeft a k
+abbrev pub JointTold : JointAnswer → (r k k′ : ℕ) → Type 0
+JointTold a = Told (jointNumber a) (takenLeft a)
 
 -- the number, and everything that the call leaves
-pub record JointRuns (x : Left JointAnswer) (r : ℕ) (rs ls w : List ℕ) (k k′ : ℕ) : Type 0 where
-  pub told : JointTold (x .answer) r k k′
-  pub records : rs ≡ x .records
-  pub lengths : ls ≡ x .lengths
-  pub work : w ≡ x .work
+abbrev pub JointRuns : Left JointAnswer → (r : ℕ) → (rs ls w : List ℕ) → (k k′ : ℕ) → Type 0
+JointRuns left = Runs (JointTold (left .answer)) left
 
 -- the place of a refusal fits the number
 abbrev pub JointFits : JointAnswer → Type 0

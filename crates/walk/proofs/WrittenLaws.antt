@@ -5,14 +5,14 @@ use mathlib.Core.List.{List, [], _∷_, _++_, append-nil, append-assoc}
 use Prim.Native.Nat.{ℕ, _+_, _^_, _≤_, _<_}
 use native.Mathlib.Nat.{add-zero}
 use native.Mathlib.Omega.{arith}
-use lib.ListN.{length, length-append}
+use lib.ListN.{length, drop, length-append}
 use lib.Seq.{drop-at}
 use borrow.Author.Tests.{le-leb}
 use Rattle.words.specs.Words.{lowFirst, integerBytes}
 use Rattle.words.proofs.WordLaws.{number-in, integer-in}
 use Rattle.parties.specs.SetBytes.{setBytes, setAt}
 use Rattle.parties.specs.declared.sets.PartySet.{PartySet}
-use Rattle.records.specs.Events.{eventBytes, written}
+use Rattle.records.specs.Events.{eventBytes, kindOf, written}
 use Rattle.walk.specs.Walk.{isEventKind, bodyWidth, eventFrom, isWhole, Walked, ends, andThen, walkFrom, walk}
 use Rattle.walk.specs.WalkLaws.{walk-skip}
 use Rattle.records.specs.Ranged.{Ranged, AllRanged}
@@ -20,23 +20,8 @@ use Rattle.records.specs.declared.events.Event.{Event}
 use Rattle.records.specs.declared.events.Event.the-variants.{Read, Wrote, Shared, Opened, Passed, Finished, Stopped}
 
 -- an event's bytes: its kind and its body
-abbrev kindOf : Event → ℕ
-kindOf (Read i) = 1
-kindOf (Wrote i) = 2
-kindOf (Shared a q) = 3
-kindOf (Opened q i) = 4
-kindOf (Passed q) = 5
-kindOf (Finished tag i l h) = 6
-kindOf (Stopped refusal node) = 7
-
 abbrev bodyOf : Event → List ℕ
-bodyOf (Read i) = integerBytes i
-bodyOf (Wrote i) = integerBytes i
-bodyOf (Shared a q) = a .index ∷ setBytes q
-bodyOf (Opened q i) = setBytes q ++ integerBytes i
-bodyOf (Passed q) = setBytes q
-bodyOf (Finished tag i l h) = tag ∷ integerBytes i ++ setBytes l ++ setBytes h
-bodyOf (Stopped refusal node) = refusal ∷ lowFirst 2 node
+bodyOf e = drop 1 (eventBytes e)
 
 record Parted (e : Event) : Type 0 where
   bytes : eventBytes e ≡ kindOf e ∷ bodyOf e
@@ -59,7 +44,7 @@ set-in q before after h = ap (λ (n : ℕ). record { bits = n }) (number-in 2 (q
 
 -- an event read where it was written
 pub event-back : (e : Event) (after : List ℕ) → Ranged e → eventFrom (kindOf e) (bodyOf e ++ after) ≡ e
-unfolding eventFrom lowFirst
+unfolding eventFrom eventBytes lowFirst
 event-back (Read i) after r = ap Read (integer-in i [] after r)
 event-back (Wrote i) after r = ap Wrote (integer-in i [] after r)
 event-back (Shared a q) after r = ap (Shared a) (set-in q (a .index ∷ []) after (r .1))

@@ -29,10 +29,10 @@ stop-requires-2 : tie.Need-stop-requires-2
 stop-requires-2 c κs = search needs
 
 same-length : tie.Need-same-length
-same-length c = search needs
+same-length c = c .before .before .before .bytes2 .given
 
 same-length-2 : tie.Need-same-length-2
-same-length-2 c = search needs
+same-length-2 c = c .before .area2 .given
 
 returns : tie.Need-returns
 returns c = let a = c .before .before .before .before .before .before .before .before .before .before .before .before .before .before .args in acts-unread (a .input) (a .t) (a .p) (a .used) (a .bytes .now) (a .area .now) (c .before .before .before .before .stop2 .result) _ _ (a .effect) (c .before .before .before .before .before .before .before .before .before .enum-told2 .given .1) (c .before .before .before .before .before .before .before .enum-told3 .given .1) (c .before .before .before .before .stop2 .ensures)
@@ -62,10 +62,10 @@ returns-3 : tie.Need-returns-3
 returns-3 c = absurd (rw (c .enum-told .given .1) at (c .before .before .before .before .before .pre .2))
 
 same-length-5 : tie.Need-same-length-5
-same-length-5 c = search needs
+same-length-5 c = c .before .before .before .bytes3 .given
 
 same-length-6 : tie.Need-same-length-6
-same-length-6 c = search needs
+same-length-6 c = c .before .area3 .given
 
 returns-4 : tie.Need-returns-4
 returns-4 c = let a = c .before .before .before .before .before .before .before .before .before .before .before .before .before .before .before .args in
@@ -73,10 +73,10 @@ returns-4 c = let a = c .before .before .before .before .before .before .before 
     (rw (read32 (c .before .before .before .before .before .before .before .before .input .given .0 .0) (record { sfits = omega arith })) at (c .before .before .before .before .settle .ensures))
 
 same-length-7 : tie.Need-same-length-7
-same-length-7 c = search needs
+same-length-7 c = c .before .before .before .bytes4 .given
 
 same-length-8 : tie.Need-same-length-8
-same-length-8 c = search needs
+same-length-8 c = c .before .area4 .given
 
 returns-5 : tie.Need-returns-5
 returns-5 c = let a = c .before .before .before .before .before .before .before .before .before .before .before .before .before .args in

@@ -1,4 +1,5 @@
 -- `acts::step` meets its contract. Assumes nothing.
+use mathlib.Core.Path.{_∙_}
 use Rattle.acts.proofs.ActLaws.{step-lands, step-asks}
 use borrow.Author.Needs.{needs}
 use Rattle.acts.proofs.step.Statement.{statement}
@@ -8,7 +9,7 @@ advance-requires : tie.Need-advance-requires
 advance-requires c κs = search needs
 
 enum-known-next : tie.Need-enum-known-next
-enum-known-next c = search needs
+enum-known-next c = c .match .keys1
 
 land-requires : tie.Need-land-requires
 land-requires c κs = search needs
@@ -17,10 +18,10 @@ enum-known-effect : tie.Need-enum-known-effect
 enum-known-effect c = search needs
 
 same-length : tie.Need-same-length
-same-length c = search needs
+same-length c = c .before .before .before .bytes .given
 
 same-length-2 : tie.Need-same-length-2
-same-length-2 c = search needs
+same-length-2 c = c .before .area2 .given ∙ c .before .before .before .before .before .before .before .before .before .before .before .area .given
 
 returns : tie.Need-returns
 returns c = let a = c .before .before .before .before .before .before .before .before .before .before .before .before .before .before .before .before .before .args in

@@ -1,9 +1,6 @@
 -- `lookup::names_read` meets its contract. Assumes nothing.
-use mathlib.Core.Path.{ap}
 use borrow.Author.Needs.{needs}
 use Rattle.rules.specs.Names.{namesOf}
-use Rattle.lookup.specs.Lookup.{listed}
-use Rattle.lookup.specs.declared.Reading.{Reading}
 use Rattle.lookup.proofs.names_read.Statement.{statement}
 use Rattle.lookup.proofs.names_read.Tie as tie
 
@@ -87,55 +84,55 @@ reading-of-requires-13 c κs = search needs
 
 returns : tie.Need-returns
 unfolding namesOf
-returns c = rw (c .before .before .node .given .1) (ap (λ (r : Reading). listed r) (c .reading-of .ensures))
+returns c = rw (c .before .before .node .given .1) (c .reading-of .ensures)
 
 returns-2 : tie.Need-returns-2
 unfolding namesOf
-returns-2 c = rw (c .before .enum-told .given .1) (ap (λ (r : Reading). listed r) (c .reading-of2 .ensures))
+returns-2 c = rw (c .before .enum-told .given .1) (c .reading-of2 .ensures)
 
 returns-3 : tie.Need-returns-3
 unfolding namesOf
-returns-3 c = rw (c .before .before .node2 .given .1) (ap (λ (r : Reading). listed r) (c .reading-of3 .ensures))
+returns-3 c = rw (c .before .before .node2 .given .1) (c .reading-of3 .ensures)
 
 returns-4 : tie.Need-returns-4
 unfolding namesOf
-returns-4 c = rw (c .before .before .node3 .given .1) (ap (λ (r : Reading). listed r) (c .reading-of4 .ensures))
+returns-4 c = rw (c .before .before .node3 .given .1) (c .reading-of4 .ensures)
 
 returns-5 : tie.Need-returns-5
 unfolding namesOf
-returns-5 c = rw (c .before .enum-told2 .given .1) (ap (λ (r : Reading). listed r) (c .reading-of5 .ensures))
+returns-5 c = rw (c .before .enum-told2 .given .1) (c .reading-of5 .ensures)
 
 returns-6 : tie.Need-returns-6
 unfolding namesOf
-returns-6 c = rw (c .before .before .node4 .given .1) (ap (λ (r : Reading). listed r) (c .reading-of6 .ensures))
+returns-6 c = rw (c .before .before .node4 .given .1) (c .reading-of6 .ensures)
 
 returns-7 : tie.Need-returns-7
 unfolding namesOf
-returns-7 c = rw (c .before .before .node5 .given .1) (ap (λ (r : Reading). listed r) (c .reading-of7 .ensures))
+returns-7 c = rw (c .before .before .node5 .given .1) (c .reading-of7 .ensures)
 
 returns-8 : tie.Need-returns-8
 unfolding namesOf
-returns-8 c = rw (c .before .before .node6 .given .1) (ap (λ (r : Reading). listed r) (c .reading-of8 .ensures))
+returns-8 c = rw (c .before .before .node6 .given .1) (c .reading-of8 .ensures)
 
 returns-9 : tie.Need-returns-9
 unfolding namesOf
-returns-9 c = rw (c .before .before .node7 .given .1) (ap (λ (r : Reading). listed r) (c .reading-of9 .ensures))
+returns-9 c = rw (c .before .before .node7 .given .1) (c .reading-of9 .ensures)
 
 returns-10 : tie.Need-returns-10
 unfolding namesOf
-returns-10 c = rw (c .before .enum-told3 .given .1) (ap (λ (r : Reading). listed r) (c .reading-of10 .ensures))
+returns-10 c = rw (c .before .enum-told3 .given .1) (c .reading-of10 .ensures)
 
 returns-11 : tie.Need-returns-11
 unfolding namesOf
-returns-11 c = rw (c .before .before .node8 .given .1) (ap (λ (r : Reading). listed r) (c .reading-of11 .ensures))
+returns-11 c = rw (c .before .before .node8 .given .1) (c .reading-of11 .ensures)
 
 returns-12 : tie.Need-returns-12
 unfolding namesOf
-returns-12 c = rw (c .before .enum-told4 .given .1) (ap (λ (r : Reading). listed r) (c .reading-of12 .ensures))
+returns-12 c = rw (c .before .enum-told4 .given .1) (c .reading-of12 .ensures)
 
 returns-13 : tie.Need-returns-13
 unfolding namesOf
-returns-13 c = rw (c .before .before .node9 .given .1) (ap (λ (r : Reading). listed r) (c .reading-of13 .ensures))
+returns-13 c = rw (c .before .before .node9 .given .1) (c .reading-of13 .ensures)
 
 pub names-read-spec : {M : Type 1} → statement M
 names-read-spec =

@@ -14,14 +14,13 @@ use prog.Memory.{Memory}
 use prog.Routine.{Routine}
 use prog.Wp.{Heap, Calls, Loops, WpFn, Tables}
 use ghost.Atoms.{Atoms, sem}
-use contract.Lifetimes.{Lfts}
 use contract.Monad.{Fun, fact}
 use contract.Running.{givenOf, tables, tablesOf}
 use types.Kit.{Given, ‵, raw, _⊛_, ⋆, some, later, _$_, _∵_, !, qed, move, use1, use2, split, join, pick, fsplit, fjoin, suffices, frame, await, done, by}
 use types.Part.{agg}
 use types.Run.{look, init, forget, stop, from, load, and-then, no-more, assigns, land, returns, enter, alloc1, alloc0, params1, pass1, pass0, free1, free0}
 use sound.WpLaws.{FmC, fmOf, WpFn-mono}
-use denote.RattleType.{RattleType, owns}
+use denote.RattleType.{owns}
 use denote.Laws.{Is, shows}
 use denote.Plain.{uint-vals, uint-tells, uint-makes}
 use denote.Builtin.{u8, usize}
@@ -46,6 +45,7 @@ use Rattle.walk.proofs.Step.Laws as S′
 use Rattle.reader.specs.declared.Reader.{Reader}
 use Rattle.reader.proofs.Reader as T
 use Rattle.reader.proofs.Reader.Laws as T′
+use Rattle.reader.proofs.ApartLaws.{B}
 use Rattle.reader.proofs.Reader.event as event
 use Rattle.reader.proofs.Reader.event.Symbol as event-def
 use Rattle.reader.proofs.Reader.event.Symbol.{name as #reader·event}
@@ -54,10 +54,6 @@ use Rattle.reader.proofs.event_at.Key.{name as #reader·event-at}
 use Rattle.reader.proofs.event_at as event-at
 use Rattle.reader.proofs.event_at.Statement as stated
 use Rattle.reader.proofs.event_at.Code as code
-
--- the struct's type, over the signature's lifetimes
-abbrev B : Lfts 1 → RattleType
-B κs = T.the-row (namedLft 1 0 tt κs)
 
 abbrev stayed : Stays (event-at.ended .signature .params) (event-at.ended .kept)
 stayed = (stay-none-slice (0 ∷ []) tt (plain (λ _. u8)) yes, (stay-none (λ _. usize) yes, tt))

@@ -21,13 +21,13 @@ hand-back-requires : tie.Need-hand-back-requires
 hand-back-requires c κs = search needs
 
 same-length : tie.Need-same-length
-same-length c = search needs
+same-length c = c .before .before .before .before .before .bytes2 .given ∙ c .before .before .before .before .before .before .before .before .before .before .before .before .before .bytes .given
 
 same-length-2 : tie.Need-same-length-2
-same-length-2 c = search needs
+same-length-2 c = c .before .before .before .lengths2 .given ∙ c .before .before .before .before .before .before .before .before .before .before .before .lengths .given
 
 same-length-3 : tie.Need-same-length-3
-same-length-3 c = search needs
+same-length-3 c = c .before .work .given
 
 returns : tie.Need-returns
 returns c =

@@ -1,5 +1,5 @@
 -- `single_step::step` meets its contract. Assumes nothing.
-use mathlib.Core.Path.{refl, sym, subst}
+use mathlib.Core.Path.{refl, sym, subst, _∙_}
 use borrow.Author.Needs.{needs}
 use Rattle.rules.specs.declared.effects.Effect.{Effect}
 use Rattle.rules.specs.declared.effects.Effect.the-variants.{Goes}
@@ -32,13 +32,13 @@ settled-requires : tie.Need-settled-requires
 settled-requires c κs = search needs
 
 same-length : tie.Need-same-length
-same-length c = search needs
+same-length c = c .before .before .before .bytes .given
 
 same-length-2 : tie.Need-same-length-2
-same-length-2 c = search needs
+same-length-2 c = c .before .lengths .given
 
 same-length-3 : tie.Need-same-length-3
-same-length-3 c = search needs
+same-length-3 c = c .before .before .before .before .before .before .before .before .before .before .before .work .given
 
 returns : tie.Need-returns
 returns c =
@@ -48,16 +48,16 @@ returns c =
     (goes (a .room) (a .n) (a .inputs .now) (a .end .now) (a .t) _ (record { bytes = a .bytes .now; lengths = a .lengths .now; work = a .work .now; at = a .at .now }) _ (r .0) refl (moved-by (a .room) (a .n) (r .0) (a .t) _ _ (a .bytes .now) (a .lengths .now) (a .work .now) _ _ _ (r .2) (c .before .before .before .before .arrive .ensures)))
 
 same-length-4 : tie.Need-same-length-4
-same-length-4 c = search needs
+same-length-4 c = c .before .before .before .before .before .before .before .before .before .before .before .at .given
 
 same-length-5 : tie.Need-same-length-5
-same-length-5 c = search needs
+same-length-5 c = c .before .before .before .before .before .bytes2 .given
 
 same-length-6 : tie.Need-same-length-6
-same-length-6 c = search needs
+same-length-6 c = c .before .before .before .lengths2 .given
 
 same-length-7 : tie.Need-same-length-7
-same-length-7 c = search needs
+same-length-7 c = c .before .work2 .given ∙ c .before .before .before .before .before .before .before .before .before .before .before .before .before .before .before .before .before .before .work .given
 
 returns-2 : tie.Need-returns-2
 returns-2 c =

@@ -38,7 +38,7 @@ unfolding move controlOf
 returns c = rw (c .before .before .before .before .before .mv .given .1) (c .before .before .hand-back .ensures)
 
 same-length-2 : tie.Need-same-length-2
-same-length-2 c = search needs
+same-length-2 c = c .before .w2 .given
 
 returns-2 : tie.Need-returns-2
 returns-2 c = rw (c .before .before .before .before .before .mv2 .given .1) (c .before .before .put-down .ensures)
@@ -52,7 +52,7 @@ unfolding move controlOf
 returns-4 c = rw (c .before .mv4 .given .1) (stands _ (c .before .before .before .before .before .before .args .w .now) (c .before .before .before .before .before .before .pre .0))
 
 same-length-3 : tie.Need-same-length-3
-same-length-3 c = search needs
+same-length-3 c = c .before .w3 .given
 
 returns-5 : tie.Need-returns-5
 returns-5 c = rw (c .before .before .before .before .before .mv5 .given .1) (c .before .before .call .ensures)

@@ -43,7 +43,7 @@ up-to-requires-4 c κs = search needs
 
 returns : tie.Need-returns
 unfolding lendingOf
-returns c = cc
+returns c = rw (c .up-to4 .ensures, c .before .load43 .ensures, c .before .before .up-to3 .ensures, c .before .before .before .load42 .ensures, c .before .before .before .before .up-to2 .ensures, c .before .before .before .before .before .before .up-to .ensures, c .before .before .before .before .before .before .before .load4 .ensures)
 
 pub lending-of-spec : {M : Type 1} → statement M
 lending-of-spec =

@@ -1,4 +1,5 @@
 -- `joint::runs::drive` meets its contract. Assumes nothing.
+use mathlib.Core.Path.{_∙_}
 use native.Mathlib.Omega.{arith}
 use borrow.Author.Needs.{needs}
 use Rattle.joint.proofs.TurnLaws.{few-turns, turns-below}
@@ -42,13 +43,13 @@ all-finished-requires c κs = let p = c .before .before .before .before .before 
     (p .0, omega (arith, p .5, c .before .before .before .before .before .before .before .before .before .before .before .before .before .before .before .before .open-all .kept .1 .1 .1 .1 .0, c .before .before .before .before .before .before .before .before .run-turns .kept .1 .1 .1 .1 .1 .1 .1 .1 .1 .1 .0))
 
 same-length : tie.Need-same-length
-same-length c = search needs
+same-length c = c .before .before .before .before .before .before .before .before .bytes .given
 
 same-length-2 : tie.Need-same-length-2
-same-length-2 c = search needs
+same-length-2 c = c .before .before .before .before .before .before .lengths2 .given ∙ c .before .before .before .before .before .before .before .before .before .before .before .before .before .before .before .before .before .before .before .before .before .before .lengths .given
 
 same-length-3 : tie.Need-same-length-3
-same-length-3 c = search needs
+same-length-3 c = c .before .before .before .before .work2 .given ∙ c .before .before .before .before .before .before .before .before .before .before .before .before .before .before .before .before .before .work .given
 
 returns : tie.Need-returns
 returns c = let a = c .before .before .before .before .before .before .before .before .before .before .before .before .before .before .before .before .before .before .before .before .before .before .before .before .before .before .before .before .before .before .before .before .before .before .before .before .args in
@@ -56,13 +57,13 @@ returns c = let a = c .before .before .before .before .before .before .before .b
     drives-complete (a .program .now) (a .n) (a .nodes) (a .room) (a .counts .now) (a .inputs .now) (a .turns .now) _ _ (a .bytes .now) (a .lengths .now) _ _ _ _ _ _ _ _ (p .2) (p .3) (p .4) (c .before .before .before .before .before .before .before .before .before .before .before .before .before .before .before .before .before .before .before .before .before .before .before .before .before .before .before .divide .ensures) (c .before .before .before .before .before .before .before .before .before .before .before .before .before .before .before .before .before .before .before .before .before .before .before .clear-lengths .ensures) (c .before .before .before .before .before .before .before .before .before .before .before .before .before .before .before .before .before .before .before .before .all .ensures) (c .before .before .before .before .before .before .before .before .before .before .before .before .before .before .before .before .before .before .open-all .ensures) (c .before .before .before .before .before .before .before .before .before .before .run-turns .ensures) (c .before .all-finished .ensures) (c .if1 .taken)
 
 same-length-4 : tie.Need-same-length-4
-same-length-4 c = search needs
+same-length-4 c = c .before .before .before .before .before .before .before .before .bytes .given
 
 same-length-5 : tie.Need-same-length-5
-same-length-5 c = search needs
+same-length-5 c = c .before .before .before .before .before .before .lengths2 .given ∙ c .before .before .before .before .before .before .before .before .before .before .before .before .before .before .before .before .before .before .before .before .before .before .lengths .given
 
 same-length-6 : tie.Need-same-length-6
-same-length-6 c = search needs
+same-length-6 c = c .before .before .before .before .work2 .given ∙ c .before .before .before .before .before .before .before .before .before .before .before .before .before .before .before .before .before .work .given
 
 returns-2 : tie.Need-returns-2
 returns-2 c = let a = c .before .before .before .before .before .before .before .before .before .before .before .before .before .before .before .before .before .before .before .before .before .before .before .before .before .before .before .before .before .before .before .before .before .before .before .before .args in

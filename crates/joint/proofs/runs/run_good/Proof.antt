@@ -1,29 +1,25 @@
 -- `joint::runs::run_good` meets its contract. Assumes nothing.
 use mathlib.Core.Path.{sym, ap, _∙_}
-use mathlib.Core.List.{List}
-use Prim.Native.Nat.{ℕ}
-use lib.IntN.{ℤ}
 use borrow.Author.Tests.{not-true, not-false}
 use borrow.Author.Needs.{needs}
 use Rattle.rules.specs.Lent.{Lent}
+use Rattle.rules.specs.Calls.{jointOf, jointCall}
 use Rattle.inputs.proofs.InputLaws.{counts-fit-is}
 use Rattle.ledger.proofs.LentLaws.{fit-parts}
 use Rattle.ends.specs.Ends.{found}
 use Rattle.ends.specs.declared.BadTurn.{BadTurn}
-use Rattle.joint.proofs.CallLaws.{call-counts, call-turn}
+use Rattle.ledger.proofs.CallLaws.{lent, call-counts, call-turn}
 use Rattle.joint.proofs.runs.run_good.Statement.{statement}
 use Rattle.joint.proofs.runs.run_good.Tie as tie
-
-abbrev lent : List ℕ → List ℕ → List ℤ → List ℕ → List ℕ → List ℕ → Lent
-lent program counts inputs records lengths work = record { program = program; counts = counts; inputs = inputs; records = records; lengths = lengths; work = work }
 
 counts-fit-requires : tie.Need-counts-fit-requires
 counts-fit-requires c κs = search needs
 
 returns : tie.Need-returns
+unfolding jointCall jointOf
 returns c = let a = c .before .before .before .before .before .before .before .before .args in
     let L : Lent = lent (a .program .now) (a .counts .now) (a .inputs .now) (a .bytes .now) (a .lengths .now) (a .work .now) in
-    call-counts L (a .turns .now) (a .n) (a .nodes) (c .before .before .before .before .before .before .before .before .pre) (sym (counts-fit-is (a .n) L) ∙ sym (c .before .counts-fit .ensures) ∙ not-true _ (c .if1 .taken))
+    call-counts (jointOf L (a .turns .now)) L (a .n) (a .nodes) (c .before .before .before .before .before .before .before .before .pre) (sym (counts-fit-is (a .n) L) ∙ sym (c .before .counts-fit .ensures) ∙ not-true _ (c .if1 .taken))
 
 bad-turn-requires : tie.Need-bad-turn-requires
 bad-turn-requires c κs = search needs
@@ -39,9 +35,10 @@ run-lent-requires c κs = let f = fit-parts _ _ _ _ (sym (c .before .before .bef
     (c .before .before .before .before .before .before .before .before .before .before .before .before .before .before .pre, f .0, f .1, sym (c .before .before .before .before .before .bad-turn .ensures) ∙ ap (λ (x : BadTurn). found x) (c .before .before .before .enum-told .given .1))
 
 returns-2 : tie.Need-returns-2
+unfolding jointCall jointOf
 returns-2 c = let a = c .before .before .before .before .before .before .before .before .before .before .before .before .args in
     let L : Lent = lent (a .program .now) (a .counts .now) (a .inputs .now) (a .bytes .now) (a .lengths .now) (a .work .now) in
-    call-turn L (a .turns .now) (a .n) (a .nodes) (c .before .before .before .before .before .before .before .before .before .before .before .before .pre) _ (sym (counts-fit-is (a .n) L) ∙ sym (c .before .before .before .before .before .counts-fit .ensures) ∙ not-false _ (c .before .before .before .before .if1 .left)) (sym (c .before .before .before .bad-turn .ensures) ∙ ap (λ (x : BadTurn). found x) (c .before .index .given .1))
+    call-turn (jointOf L (a .turns .now)) L (a .n) (a .nodes) (c .before .before .before .before .before .before .before .before .before .before .before .before .pre) _ (sym (counts-fit-is (a .n) L) ∙ sym (c .before .before .before .before .before .counts-fit .ensures) ∙ not-false _ (c .before .before .before .before .if1 .left)) (sym (c .before .before .before .bad-turn .ensures) ∙ ap (λ (x : BadTurn). found x) (c .before .index .given .1))
 
 same-length : tie.Need-same-length
 same-length c = search needs

@@ -37,13 +37,13 @@ close-requires : tie.Need-close-requires
 close-requires c κs = search needs
 
 mul-lengths : tie.Need-mul-lengths
-mul-lengths c = search needs
+mul-lengths c = mul-close (c .before .before .before .before)
 
 slice-write-lengths : tie.Need-slice-write-lengths
-slice-write-lengths c = search needs
+slice-write-lengths c = slice-read-close (c .before .before .before)
 
 same-length : tie.Need-same-length
-same-length c = search needs
+same-length c = c .before .bytes .given .1
 
 same-length-2 : tie.Need-same-length-2
 same-length-2 c = search needs

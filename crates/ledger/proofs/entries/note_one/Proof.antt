@@ -37,7 +37,7 @@ sub-append : tie.Need-sub-append
 sub-append c = search needs
 
 part-append-start : tie.Need-part-append-start
-part-append-start c = search needs
+part-append-start c = sub-append c
 
 part-append-end : tie.Need-part-append-end
 part-append-end c = search needs
@@ -46,13 +46,13 @@ append-requires : tie.Need-append-requires
 append-requires c κs = search needs
 
 enum-known-next : tie.Need-enum-known-next
-enum-known-next c = search needs
+enum-known-next c = c .match .keys1
 
 enum-told : tie.Need-enum-told
 enum-told c = search needs
 
 same-length : tie.Need-same-length
-same-length c = search needs
+same-length c = c .before .before .before .bytes .given .1
 
 returns-2 : tie.Need-returns-2
 returns-2 c =
@@ -65,13 +65,13 @@ returns-2 c =
     inside (append .ensures) (c .enum-told .given .1)
 
 mul-lengths : tie.Need-mul-lengths
-mul-lengths c = search needs
+mul-lengths c = mul-used (c .before .before .before .before .before .before .before .before .before)
 
 slice-write-lengths : tie.Need-slice-write-lengths
-slice-write-lengths c = search needs
+slice-write-lengths c = slice-read-used (c .before .before .before .before .before .before .before .before)
 
 same-length-2 : tie.Need-same-length-2
-same-length-2 c = search needs
+same-length-2 c = c .before .before .before .before .bytes .given .1
 
 same-length-3 : tie.Need-same-length-3
 same-length-3 c = search needs

@@ -4,11 +4,12 @@ use Prim.Native.Nat.{_-_}
 use native.Mathlib.Omega.{arith}
 use lib.ListN.{length}
 use borrow.Author.Needs.{needs}
+use Rattle.records.specs.EventLaws.{event-long}
 use Rattle.walk.specs.Walk.{event, stepAnswer, told}
 use Rattle.text.specs.Text.{ascii}
 use Rattle.text.specs.TextLaws.{puts-length}
 use Rattle.listing.proofs.LineLaws.{marked-short}
-use Rattle.listing.proofs.WalkedLaws.{Shown, found, event-long, shown-none, shown-room, shown-more, shown-end, shown-refusal}
+use Rattle.listing.proofs.WalkedLaws.{Shown, found, shown-none, shown-room, shown-more, shown-end, shown-refusal}
 use Rattle.listing.proofs.lines.put_walk.Statement.{statement}
 use Rattle.listing.proofs.lines.put_walk.Tie as tie
 

@@ -3,7 +3,7 @@ use native.Mathlib.Omega.{arith}
 use borrow.Author.Needs.{needs}
 use Rattle.text.specs.Text.{ascii}
 use Rattle.printing.specs.Lines.{jointLines, afterJoint}
-use Rattle.printing.proofs.AnswerLaws.{room-after-one, after-then}
+use Rattle.printing.proofs.AnswerLaws.{lines-of}
 use Rattle.printing.proofs.lines.put_joint.Statement.{statement}
 use Rattle.printing.proofs.lines.put_joint.Tie as tie
 
@@ -22,34 +22,26 @@ put-two-requires c κs = search needs
 enum-known-answer-2 : tie.Need-enum-known-answer-2
 enum-known-answer-2 c = search needs
 
-slice-aggregate-put-one : tie.Need-slice-aggregate-put-one
-slice-aggregate-put-one c = search needs
+slice-aggregate-put-counted : tie.Need-slice-aggregate-put-counted
+slice-aggregate-put-counted c = search needs
 
-cast-put-one : tie.Need-cast-put-one
-cast-put-one c = search needs
+cast-put-counted : tie.Need-cast-put-counted
+cast-put-counted c = search needs
 
-put-one-requires : tie.Need-put-one-requires
-put-one-requires c κs = search needs
-
-put-records-requires : tie.Need-put-records-requires
-put-records-requires c κs =
-    (rw (c .before .before .before .before .before .before .before .answer2 .given .1) at (c .before .before .before .before .before .before .before .before .before .before .before .before .pre .0), room-after-one _ _ _ _ _ _ (c .before .before .before .put-one .ensures) (omega arith) (c .before .before .before .before .before .before .before .before .before .before .before .before .pre .1))
+put-counted-requires : tie.Need-put-counted-requires
+put-counted-requires c κs = (rw (c .before .before .before .answer2 .given .1) at (c .before .before .before .before .before .before .before .before .pre .0), omega arith, c .before .before .before .before .before .before .before .before .pre .1)
 
 enum-known-answer-3 : tie.Need-enum-known-answer-3
 enum-known-answer-3 c = search needs
 
-slice-aggregate-put-one-2 : tie.Need-slice-aggregate-put-one-2
-slice-aggregate-put-one-2 c = search needs
+slice-aggregate-put-counted-2 : tie.Need-slice-aggregate-put-counted-2
+slice-aggregate-put-counted-2 c = search needs
 
-cast-put-one-2 : tie.Need-cast-put-one-2
-cast-put-one-2 c = search needs
+cast-put-counted-2 : tie.Need-cast-put-counted-2
+cast-put-counted-2 c = search needs
 
-put-one-requires-2 : tie.Need-put-one-requires-2
-put-one-requires-2 c κs = search needs
-
-put-records-requires-2 : tie.Need-put-records-requires-2
-put-records-requires-2 c κs =
-    (rw (c .before .before .before .before .before .before .before .answer3 .given .1) at (c .before .before .before .before .before .before .before .before .before .before .before .before .pre .0), room-after-one _ _ _ _ _ _ (c .before .before .before .put-one2 .ensures) (omega arith) (c .before .before .before .before .before .before .before .before .before .before .before .before .pre .1))
+put-counted-requires-2 : tie.Need-put-counted-requires-2
+put-counted-requires-2 c κs = (rw (c .before .before .before .answer3 .given .1) at (c .before .before .before .before .before .before .before .before .pre .0), omega arith, c .before .before .before .before .before .before .before .before .pre .1)
 
 same-length : tie.Need-same-length
 same-length c = search needs
@@ -63,14 +55,14 @@ same-length-2 c = search needs
 
 returns-2 : tie.Need-returns-2
 unfolding jointLines afterJoint ascii
-returns-2 c = rw (c .before .before .before .before .before .before .before .before .before .before .answer2 .given .1) (after-then _ _ _ _ _ _ _ _ _ _ _ (c .before .before .before .before .before .before .put-one .ensures) (c .before .before .put-records .ensures))
+returns-2 c = rw (c .before .before .before .before .before .before .answer2 .given .1, ← lines-of) (c .before .before .put-counted .ensures)
 
 same-length-3 : tie.Need-same-length-3
 same-length-3 c = search needs
 
 returns-3 : tie.Need-returns-3
 unfolding jointLines afterJoint ascii
-returns-3 c = rw (c .before .before .before .before .before .before .before .before .before .before .answer3 .given .1) (after-then _ _ _ _ _ _ _ _ _ _ _ (c .before .before .before .before .before .before .put-one2 .ensures) (c .before .before .put-records2 .ensures))
+returns-3 c = rw (c .before .before .before .before .before .before .answer3 .given .1, ← lines-of) (c .before .before .put-counted2 .ensures)
 
 pub put-joint-spec : {M : Type 1} → statement M
 put-joint-spec =
@@ -81,15 +73,13 @@ put-joint-spec =
     cast-put-two
     put-two-requires
     enum-known-answer-2
-    slice-aggregate-put-one
-    cast-put-one
-    put-one-requires
-    put-records-requires
+    slice-aggregate-put-counted
+    cast-put-counted
+    put-counted-requires
     enum-known-answer-3
-    slice-aggregate-put-one-2
-    cast-put-one-2
-    put-one-requires-2
-    put-records-requires-2
+    slice-aggregate-put-counted-2
+    cast-put-counted-2
+    put-counted-requires-2
     same-length
     returns
     same-length-2

@@ -33,16 +33,16 @@ show-text-requires c κs =
     (omega arith, omega arith, record { records = e; lengths = g }, record { capped = h .capped; records = omega arith; lengths = omega arith; single = h .single; joint = h .joint; room = h .room })
 
 same-length : tie.Need-same-length
-same-length c = search needs
+same-length c = c .before .before .before .before .before .before .before .records .given .1
 
 same-length-2 : tie.Need-same-length-2
-same-length-2 c = search needs
+same-length-2 c = c .before .before .before .before .before .lengths .given .1
 
 same-length-3 : tie.Need-same-length-3
-same-length-3 c = search needs
+same-length-3 c = c .before .before .before .work .given
 
 same-length-4 : tie.Need-same-length-4
-same-length-4 c = search needs
+same-length-4 c = c .before .out .given
 
 returns : tie.Need-returns
 returns c = search needs

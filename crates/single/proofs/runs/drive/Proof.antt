@@ -1,4 +1,5 @@
 -- `single::runs::drive` meets its contract. Assumes nothing.
+use mathlib.Core.Path.{_∙_}
 use borrow.Author.Needs.{needs}
 use Rattle.single.proofs.DriveLaws.{drives-by}
 use Rattle.single.proofs.runs.drive.Statement.{statement}
@@ -35,13 +36,13 @@ run-on-requires : tie.Need-run-on-requires
 run-on-requires c κs = search needs
 
 same-length : tie.Need-same-length
-same-length c = search needs
+same-length c = c .before .before .before .before .before .bytes .given
 
 same-length-2 : tie.Need-same-length-2
-same-length-2 c = search needs
+same-length-2 c = c .before .before .before .lengths2 .given ∙ c .before .before .before .before .before .before .before .before .before .before .before .before .before .before .before .before .before .before .before .lengths .given
 
 same-length-3 : tie.Need-same-length-3
-same-length-3 c = search needs
+same-length-3 c = c .before .work2 .given ∙ c .before .before .before .before .before .before .before .before .before .before .before .before .before .before .before .work .given
 
 returns : tie.Need-returns
 returns c = let a = c .before .before .before .before .before .before .before .before .before .before .before .before .before .before .before .before .before .before .before .before .before .before .before .before .before .before .before .before .before .before .before .before .args in

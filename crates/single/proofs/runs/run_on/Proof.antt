@@ -34,7 +34,7 @@ step-requires c κs = let p = c .before .before .before .before .before .before 
     (p .0, omega (arith, p .1, v .2), omega (arith, p .2, v .3), v .0 .deep, omega (arith, p .4, v .4), omega (arith, p .5, v .1), p .6)
 
 enum-known-next : tie.Need-enum-known-next Inv-loop μ-loop
-enum-known-next c = search needs
+enum-known-next c = c .match .keys1
 
 enum-told : tie.Need-enum-told Inv-loop μ-loop
 enum-told c = search needs
@@ -59,7 +59,7 @@ returns c = let a = c .before .before .before .before .before .before .before .b
     goes-end (a .program .now) (a .nodes) (a .room) (a .n) (a .inputs .now) (a .end .now) (a .budget) (a .start) (lists (a .at .now) (a .bytes .now) (a .lengths .now) (a .work .now)) (c .before .before .before .before .before .before .before .before .before .before .before .before .before .before .before .before .loop .t) (c .before .before .before .before .before .before .before .before .before .before .before .before .before .before .before .before .loop .k) (lists (c .before .before .before .before .before .before .before .before .before .before .before .before .before .before .before .before .loop .at) (c .before .before .before .before .before .before .before .before .before .before .before .before .before .before .before .before .loop .bytes) (c .before .before .before .before .before .before .before .before .before .before .before .before .before .before .before .before .loop .lengths) (c .before .before .before .before .before .before .before .before .before .before .before .before .before .before .before .before .loop .work)) (lists (c .before .before .before .before .before .before .before .before .before .before .step .last .1 .1 .1 .1 .1 .1 .0) (c .before .before .before .before .before .before .before .before .before .before .step .last .1 .1 .1 .1 .1 .1 .1 .1 .0) (c .before .before .before .before .before .before .before .before .before .before .step .last .1 .1 .1 .1 .1 .1 .1 .1 .1 .0) (c .before .before .before .before .before .before .before .before .before .before .step .last .1 .1 .1 .1 .1 .1 .1 .1 .1 .1 .0)) _ (c .before .before .before .before .before .before .before .before .before .before .before .before .before .before .before .before .loop .inv .0) (c .before .before .before .before .before .before .before .before .before .before .before .before .before .before .before .before .before .before .before .before .before .before .before .pre .7) (c .before .before .before .before .before .before .before .before .before .before .before .before .before .before .before .loop-test .taken) (c .before .before .before .before .before .before .before .before .before .before .step .ensures) (c .enum-told .given .1)
 
 enum-known-refusal : tie.Need-enum-known-refusal Inv-loop μ-loop
-enum-known-refusal c = search needs
+enum-known-refusal c = c .match .keys3
 
 same-length-5 : tie.Need-same-length-5 Inv-loop μ-loop
 same-length-5 c = c .before .before .before .before .before .before .before .before .before .before .before .step .kept .1 .1 .1 .1 .1 .1 .0 ∙ c .before .before .before .before .before .before .before .before .before .before .before .before .before .before .before .before .before .loop .inv .1

@@ -23,15 +23,15 @@ enum-known-answer-3 c = search needs
 
 returns : tie.Need-returns
 unfolding jointNumber takenLeft
-returns c = rw (c .before .before .answer .given .1) (record { number = c .numbered .ensures; taken = refl })
+returns c = rw (c .before .before .answer .given .1) (record { number-is = c .numbered .ensures; count-is = refl })
 
 returns-2 : tie.Need-returns-2
 unfolding jointNumber takenLeft
-returns-2 c = rw (c .before .answer2 .given .1) (record { number = refl; taken = refl })
+returns-2 c = rw (c .before .answer2 .given .1) (record { number-is = refl; count-is = refl })
 
 returns-3 : tie.Need-returns-3
 unfolding jointNumber takenLeft
-returns-3 c = rw (c .before .answer3 .given .1) (record { number = refl; taken = refl })
+returns-3 c = rw (c .before .answer3 .given .1) (record { number-is = refl; count-is = refl })
 
 pub tell-joint-spec : {M : Type 1} → statement M
 tell-joint-spec =

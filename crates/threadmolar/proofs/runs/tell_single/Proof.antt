@@ -29,19 +29,19 @@ enum-known-answer-4 c = search needs
 
 returns : tie.Need-returns
 unfolding singleNumber stepsLeft
-returns c = rw (c .before .before .answer .given .1) (record { number = c .numbered .ensures; steps = refl })
+returns c = rw (c .before .before .answer .given .1) (record { number-is = c .numbered .ensures; count-is = refl })
 
 returns-2 : tie.Need-returns-2
 unfolding singleNumber stepsLeft
-returns-2 c = rw (c .before .before .answer2 .given .1) (record { number = c .numbered2 .ensures; steps = refl })
+returns-2 c = rw (c .before .before .answer2 .given .1) (record { number-is = c .numbered2 .ensures; count-is = refl })
 
 returns-3 : tie.Need-returns-3
 unfolding singleNumber stepsLeft
-returns-3 c = rw (c .before .answer3 .given .1) (record { number = refl; steps = refl })
+returns-3 c = rw (c .before .answer3 .given .1) (record { number-is = refl; count-is = refl })
 
 returns-4 : tie.Need-returns-4
 unfolding singleNumber stepsLeft
-returns-4 c = rw (c .before .answer4 .given .1) (record { number = refl; steps = refl })
+returns-4 c = rw (c .before .answer4 .given .1) (record { number-is = refl; count-is = refl })
 
 pub tell-single-spec : {M : Type 1} → statement M
 tell-single-spec =

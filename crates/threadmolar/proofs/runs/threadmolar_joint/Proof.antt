@@ -1,9 +1,9 @@
 -- `threadmolar::runs::threadmolar_joint` meets its contract. Assumes nothing.
 use mathlib.Core.Path.{subst⁻¹}
 use borrow.Author.Needs.{needs}
-use Rattle.threadmolar.specs.Runs.{JointFits}
+use Rattle.threadmolar.specs.Runs.{JointFits, JointTold}
 use Rattle.threadmolar.proofs.AnswerLaws.{joint-fits}
-use Rattle.threadmolar.proofs.RunLaws.{joint-runs}
+use Rattle.threadmolar.proofs.RunLaws.{call-runs}
 use Rattle.threadmolar.proofs.runs.threadmolar_joint.Statement.{statement}
 use Rattle.threadmolar.proofs.runs.threadmolar_joint.Tie as tie
 
@@ -23,7 +23,7 @@ same-length-3 : tie.Need-same-length-3
 same-length-3 c = search needs
 
 returns : tie.Need-returns
-returns c = joint-runs _ _ _ _ _ _ _ _ (c .before .before .before .before .before .before .before .before .run .ensures) (c .tell-joint .ensures)
+returns c = call-runs JointTold (c .before .before .before .before .before .before .before .before .run .ensures) (c .tell-joint .ensures)
 
 pub threadmolar-joint-spec : {M : Type 1} → statement M
 threadmolar-joint-spec =

@@ -1,9 +1,9 @@
 -- `threadmolar::runs::threadmolar_single` meets its contract. Assumes nothing.
 use mathlib.Core.Path.{subst⁻¹}
 use borrow.Author.Needs.{needs}
-use Rattle.threadmolar.specs.Runs.{SingleFits}
+use Rattle.threadmolar.specs.Runs.{SingleFits, SingleTold}
 use Rattle.threadmolar.proofs.AnswerLaws.{single-fits}
-use Rattle.threadmolar.proofs.RunLaws.{single-runs}
+use Rattle.threadmolar.proofs.RunLaws.{call-runs}
 use Rattle.threadmolar.proofs.runs.threadmolar_single.Statement.{statement}
 use Rattle.threadmolar.proofs.runs.threadmolar_single.Tie as tie
 
@@ -23,7 +23,7 @@ same-length-3 : tie.Need-same-length-3
 same-length-3 c = search needs
 
 returns : tie.Need-returns
-returns c = single-runs _ _ _ _ _ _ _ _ (c .before .before .before .before .before .before .before .before .run .ensures) (c .tell-single .ensures)
+returns c = call-runs SingleTold (c .before .before .before .before .before .before .before .before .run .ensures) (c .tell-single .ensures)
 
 pub threadmolar-single-spec : {M : Type 1} → statement M
 threadmolar-single-spec =

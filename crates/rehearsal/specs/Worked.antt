@@ -6,16 +6,9 @@ use mathlib.Core.Option.{none, some}
 use lib.IntN.{pos}
 use lib.ListN.{take}
 use Rattle.words.specs.Words.{numberAt}
+use Rattle.rules.specs.Worked.{program, turns}
 use Rattle.cases.specs.Rows.{row, numbersAt, integersAt, sum}
 use Rattle.cases.specs.Input.{layoutOf, turnCount, fits, laidOut, caseAt, parsed}
-
--- "Program, in hex"
-pub program : List ℕ
-program = 0x00 ∷ 0x02 ∷ 0x05 ∷ 0x0c ∷ 0x01 ∷ 0x00 ∷ 0x00 ∷ 0x00 ∷ 0x08 ∷ 0x00 ∷ 0x02 ∷ 0x00 ∷ 0x00 ∷ 0x09 ∷ 0x01 ∷ 0x00 ∷ 0x01
-    ∷ 0x0a ∷ 0x01 ∷ 0x02 ∷ 0x00 ∷ 0x03 ∷ 0x00 ∷ 0x0a ∷ 0x00 ∷ 0x01 ∷ 0x00 ∷ 0x04 ∷ 0x00 ∷ []
-
-pub turns : List ℕ
-turns = 0 ∷ 0 ∷ 0 ∷ 0 ∷ 0 ∷ 1 ∷ 1 ∷ 1 ∷ 1 ∷ 0 ∷ []
 
 -- "Counts 1 and 0, input 7, budget 100", between the program and the turns
 pub input : List ℕ
@@ -28,5 +21,5 @@ pub record Worked : Type 0 where
   pub remains : parsed (input ++ (0 ∷ [])) ≡ none
 
 pub worked : Worked
-unfolding numberAt row numbersAt integersAt sum layoutOf turnCount fits laidOut caseAt parsed program turns input
+unfolding numberAt row numbersAt integersAt sum layoutOf turnCount fits laidOut caseAt parsed program input
 worked = record { good = refl; lacks = refl; lacks-all = refl; remains = refl }
