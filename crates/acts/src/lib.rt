@@ -78,7 +78,9 @@ pub fn step(
     ensures { λ r. ⌜ Steps (now (program .entry)) nodes t p used (now (bytes .entry)) (now (area .entry)) r (now (bytes .exit)) (now (area .exit)) ⌝ }
 {
     let node = t.node;
-    match advance::advance(View::Site(p), program, nodes, t, area) {
+    let gone = advance::far(View::Site(p), program, nodes, t, 1, area);
+    let came = gone.came;
+    match came {
         Advanced::Moved(next) => Stepped::Landed(land(next, node, used, bytes, area)),
         Advanced::Asks(effect) => Stepped::Asks(effect),
     }

@@ -1,48 +1,133 @@
--- The two answers of a step that needs only the area. Assumes nothing.
-use mathlib.Core.Path.{_≡_, refl, sym, _∙_, subst}
+-- The answers of a step that needs only the area, and of a run of moves. Assumes nothing.
+use mathlib.Core.Path.{_≡_, refl, sym, ap, _∙_, subst}
 use mathlib.Core.List.{List, [], _∷_}
-use Prim.Native.Nat.{ℕ}
+use Prim.Native.Nat.{ℕ, zero, suc, _+_, _≤_, _<_}
 use native.Mathlib.Omega.{arith}
 use denote.Enum.{Declared.tagOf}
 use types.Run.{OneOf, miss}
+use Rattle.limits.specs.Limits.{maxFrames}
+use Rattle.limits.specs.declared.Name.{Name}
+use Rattle.parties.specs.declared.sets.PartySet.{PartySet}
+use Rattle.nodes.specs.declared.Node.{Node}
+use Rattle.nodes.specs.declared.Node.the-variants.{LET, CALL}
+use Rattle.refusals.specs.Numbers.{nameUnbound}
+use Rattle.rules.specs.Names.{Names, look, lookAll, namesOf}
+use Rattle.rules.specs.Rules.{judge, rule}
 use Rattle.rules.specs.Moves.{handBack, move}
 use Rattle.values.specs.declared.value.Value.{Value}
+use Rattle.rules.specs.declared.bindings.Binding.{Binding}
 use Rattle.rules.specs.declared.effects.View.{View}
 use Rattle.rules.specs.declared.effects.Move.{Move}
-use Rattle.rules.specs.declared.effects.Move.the-variants.{Hand}
+use Rattle.rules.specs.declared.effects.Move.the-variants.{Hand, Down, Call}
 use Rattle.rules.specs.declared.effects.Effect.{Effect}
 use Rattle.rules.specs.declared.effects.Effect.the-variants as Effect′
 use Rattle.rules.proofs.effects.Effect.{the-type}
+use Rattle.area.proofs.stand.Next.{the-type as next-type}
 use Rattle.area.specs.Levels.{framesOf, controlOf, Goes}
 use Rattle.area.specs.declared.stand.Stand.{Stand}
 use Rattle.area.specs.declared.stand.Next.{Next}
-use Rattle.advance.specs.Advances.{ruleAt, Asked, Advances}
+use Rattle.area.specs.declared.stand.Next.the-variants as Next′
+use Rattle.table.specs.Table.{nodeBy}
+use Rattle.lookup.specs.Lookup.{soughtOf}
+use Rattle.lookup.specs.declared.Sought.the-variants as Sought′
+use Rattle.lookup.proofs.LookupLaws.{found-is, missing-is}
+use Rattle.advance.specs.Advances.{ruleOf, Asked, Answers, Advances, Moves, onwardOf, GoesFar}
+use Rattle.advance.specs.declared.Advanced.{Advanced}
 use Rattle.advance.specs.declared.Advanced.the-variants.{Moved, Asks}
+use Rattle.advance.specs.declared.Onward.the-variants as Onward′
+use Rattle.advance.specs.declared.Gone.{Gone}
 
 -- what is left once control does not just move
-asked : (effect : Effect) → OneOf (0 ∷ 2 ∷ 3 ∷ 4 ∷ []) (tagOf the-type effect) → Asked effect
-asked (Effect′.Refuse r) h = tt
-asked (Effect′.Goes mv) h = miss (0 ∷ 2 ∷ 3 ∷ 4 ∷ []) 1 tt h
-asked Effect′.Reads h = tt
-asked (Effect′.Writes i) h = tt
-asked (Effect′.Meets mt o) h = tt
+pub asked-left : (effect : Effect) → OneOf (0 ∷ 2 ∷ 3 ∷ 4 ∷ []) (tagOf the-type effect) → Asked effect
+asked-left (Effect′.Refuse r) h = tt
+asked-left (Effect′.Goes mv) h = miss (0 ∷ 2 ∷ 3 ∷ 4 ∷ []) 1 tt h
+asked-left Effect′.Reads h = tt
+asked-left (Effect′.Writes i) h = tt
+asked-left (Effect′.Meets mt o) h = tt
 
-module _ (view : View) (bs : List ℕ) (nodes : ℕ) (t : Stand) (w : List ℕ) (effect : Effect) (is : effect ≡ ruleAt view bs nodes t w) where
-  pub advance-asks : OneOf (0 ∷ 2 ∷ 3 ∷ 4 ∷ []) (tagOf the-type effect) → Advances view bs nodes t (Asks effect) w w
-  advance-asks h =
+module _ (asked : Effect) (t : Stand) (w : List ℕ) where
+  pub answers-asks : (effect : Effect) → effect ≡ asked → Asked effect → Answers asked t (Asks effect) w w
+  answers-asks effect is h =
       record {
         moved = λ next q. absurd (let z : _≡_ {A = ℕ} 0 1 = cc in omega arith);
-        asks = λ e q. let same : effect ≡ e = cc in (sym same ∙ is, subst Asked same (asked effect h), refl);
+        asks = λ e q. let same : effect ≡ e = cc in (sym same ∙ is, subst Asked same h, refl);
       }
 
-  pub advance-moves : (mv : Move) (next : Next) (w′ : List ℕ) → effect ≡ Effect′.Goes mv → Goes next (move mv (controlOf t w)) w w′ → Advances view bs nodes t (Moved next) w w′
-  advance-moves mv next w′ q g =
+  pub answers-moves : (mv : Move) (next : Next) (w′ : List ℕ) → Effect′.Goes mv ≡ asked → Goes next (move mv (controlOf t w)) w w′ → Answers asked t (Moved next) w w′
+  answers-moves mv next w′ q g =
       record {
-        moved = λ n e. let same : next ≡ n = cc in (mv, sym q ∙ is, subst (λ (x : Next). Goes x (move mv (controlOf t w)) w w′) same g);
+        moved = λ n e. let same : next ≡ n = cc in (mv, q, subst (λ (x : Next). Goes x (move mv (controlOf t w)) w w′) same g);
         asks = λ n e. absurd (let z : _≡_ {A = ℕ} 0 1 = cc in omega arith);
       }
+
+-- ---- the rules of LET and CALL
+module _ (view : View) (m : PartySet) (b : Names) where
+  pub rule-let : (x : Name) (e1 e2 : ℕ) → Effect′.Goes (Down x e1 e2) ≡ rule view (LET x e1 e2) m b
+  unfolding rule lookAll namesOf judge
+  rule-let x e1 e2 = refl
+
+  pub rule-call : (f : ℕ) (x : Name) (y : Binding) → Sought′.Found y ≡ soughtOf x (look m b x) → Effect′.Goes (Call f (y .value)) ≡ rule view (CALL f x) m b
+  unfolding rule lookAll namesOf judge
+  rule-call f x y h = rw (found-is x (look m b x) y (sym h))
+
+  pub rule-call-unbound : (f : ℕ) (x y : Name) → Sought′.Unbound y ≡ soughtOf x (look m b x) → Effect′.Refuse nameUnbound ≡ rule view (CALL f x) m b
+  unfolding rule lookAll namesOf judge
+  rule-call-unbound f x y h = rw (missing-is x (look m b x) y (sym h))
+
+-- the rule of the node at which control stands
+pub by-node : (view : View) (bs : List ℕ) (nodes : ℕ) (t : Stand) (w : List ℕ) (node : Node) {y : Advanced} (w′ : List ℕ) → node ≡ nodeBy bs nodes w (t .node)
+    → Answers (ruleOf view node t w) t y w w′ → Advances view bs nodes t y w w′
+by-node view bs nodes t w node {y} w′ e = subst (λ (x : Node). Answers (ruleOf view x t w) t y w w′) e
 
 -- handing back is a move
 pub hands : (v : Value) (t : Stand) (next : Next) (w w′ : List ℕ) → Goes next (handBack v (framesOf w (t .depth .frames))) w w′ → Goes next (move (Hand v) (controlOf t w)) w w′
 unfolding move controlOf
 hands v t next w w′ g = g
+
+-- ---- a run of moves
+
+-- a move that does not lead on
+pub follows-not : (next : Next) → OneOf (1 ∷ 2 ∷ []) (tagOf next-type next) → Onward′.Not ≡ onwardOf (Moved next)
+follows-not (Next′.On t) h = absurd (miss (1 ∷ 2 ∷ []) 0 tt h)
+follows-not (Next′.Ends v) h = refl
+follows-not Next′.Full h = refl
+
+-- where another step may follow, a move led on
+onward-is : (y : Advanced) (t : Stand) → Onward′.To t ≡ onwardOf y → y ≡ Moved (Next′.On t)
+onward-is (Moved (Next′.On u)) t e = let same : t ≡ u = cc in ap (λ (x : Stand). Moved (Next′.On x)) (sym same)
+onward-is (Moved (Next′.Ends v)) t e = absurd (let z : _≡_ {A = ℕ} 0 1 = cc in omega arith)
+onward-is (Moved Next′.Full) t e = absurd (let z : _≡_ {A = ℕ} 0 1 = cc in omega arith)
+onward-is (Asks effect) t e = absurd (let z : _≡_ {A = ℕ} 0 1 = cc in omega arith)
+
+module _ (view : View) (bs : List ℕ) (nodes : ℕ) (t : Stand) (w : List ℕ) where
+  pub no-moves : Moves view bs nodes 0 t w t w
+  unfolding Moves
+  no-moves = (refl, refl)
+
+  -- another step, where it led on
+  pub one-more : (k : ℕ) (s u : Stand) (x v : List ℕ) (y : Advanced) → Moves view bs nodes k t w s x → Advances view bs nodes s y x v → Onward′.To u ≡ onwardOf y
+      → (u .depth .frames ≤ maxFrames) × Moves view bs nodes (k + 1) t w u v
+  unfolding Moves
+  one-more k s u x v y h a e =
+      let led : Advances view bs nodes s (Moved (Next′.On u)) x v = subst (λ (z : Advanced). Advances view bs nodes s z x v) (onward-is y u e) a in
+      let next : k + 1 ≡ suc k = omega arith in
+      (led .moved (Next′.On u) refl .2 .deep, rw next (s, x, h, led))
+
+  -- what each move keeps, the moves keep
+  pub moves-keep : (P : ℕ → Stand → List ℕ → Type 0) → P 0 t w → ((k : ℕ) (s u : Stand) (x v : List ℕ) → P k s x → Advances view bs nodes s (Moved (Next′.On u)) x v → P (k + 1) u v)
+      → (k : ℕ) (u : Stand) (v : List ℕ) → Moves view bs nodes k t w u v → P k u v
+  unfolding Moves
+  moves-keep P start keeps zero u v (same, bytes) = subst (λ (x : List ℕ). P 0 u x) bytes (subst (λ (s : Stand). P 0 s w) same start)
+  moves-keep P start keeps (suc k) u v (s, x, h, a) = let next : k + 1 ≡ suc k = omega arith in subst (λ (j : ℕ). P j u v) next (keeps k s u x v (moves-keep P start keeps k s x h) a)
+
+  -- no more frames are down than there are levels for
+  pub moves-deep : (k : ℕ) (u : Stand) (v : List ℕ) → t .depth .frames ≤ maxFrames → Moves view bs nodes k t w u v → u .depth .frames ≤ maxFrames
+  moves-deep k u v d = moves-keep (λ j s x. s .depth .frames ≤ maxFrames) d (λ j s u x v h a. a .moved (Next′.On u) refl .2 .deep) k u v
+
+  -- where only one step was asked for, it is from where control stood
+  pub far-once : (f : Gone) (w′ : List ℕ) → GoesFar view bs nodes t 1 f w w′ → Advances view bs nodes t (f .came) w w′
+  unfolding Moves
+  far-once f w′ (few, v, h, a) =
+      let none : f .moves ≡ 0 = omega arith in
+      let (same, bytes) = subst (λ (k : ℕ). Moves view bs nodes k t w (f .stand) v) none h in
+      rw (same, bytes) a

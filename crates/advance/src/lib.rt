@@ -1,12 +1,18 @@
-// What a step needs nothing but the area for: the node is read and its rule asked, and where control just moves, it moves at once.
-// Both runs come here, so that the code of all of it has one caller.
+// Steps that need nothing but the area: a node is read and its rule asked, and where control just moves, it moves at once.
+// Both runs come here, so that the code of all of it has one caller; a run of moves does not leave the loop.
 ghost use Prim.Native.Nat.{_≤_};
 ghost use lib.ListN.{length};
 ghost use Rattle.limits.specs.Limits.{maxFrames};
+ghost use Rattle.nodes.specs.declared.Node.the-variants.{CALL};
 ghost use Rattle.rules.specs.Lent.{areaSize};
-ghost use Rattle.advance.specs.Advances.{Advances};
+ghost use Rattle.rules.specs.declared.effects.View.{View};
+ghost use Rattle.advance.specs.Advances.{ruleOf, Answers, Advances, onwardOf, GoesFar};
+ghost use mathlib.Core.Path.{_≡_};
 use area::stand::Next;
 use area::stand::Stand;
+use limits::Name;
+use lookup::Sought;
+use nodes::Node;
 use rules::effects::Effect;
 use rules::effects::View;
 
@@ -16,14 +22,95 @@ pub enum Advanced {
     Asks(Effect),
 }
 
-pub fn advance(view: View, program: &[u8], nodes: usize, t: Stand, w: &mut [u8]) -> Advanced
+// By the rule of any node.
+fn by_rule(view: View, node: Node, t: Stand, w: &mut [u8]) -> Advanced
     requires { ⌜ (t .depth .frames ≤ maxFrames) × (areaSize ≤ length (now w)) ⌝ }
-    ensures { λ y. ⌜ Advances view (now (program .entry)) nodes t y (now (w .entry)) (now (w .exit)) ⌝ }
+    ensures { λ y. ⌜ Answers (ruleOf view node t (now (w .entry))) t y (now (w .entry)) (now (w .exit)) ⌝ }
 {
-    let node = table::node(program, nodes, w, t.node);
     let effect = lookup::effect(view, node, t, w);
     let Effect::Goes(mv) = effect else {
         return Advanced::Asks(effect);
     };
     Advanced::Moved(area::levels::go(mv, t, w))
+}
+
+// By the rule of CALL, whose one value goes straight where it is bound.
+fn call(f: u16, x: Name, t: Stand, w: &mut [u8]) -> Advanced
+    requires { ⌜ (t .depth .frames ≤ maxFrames) × (areaSize ≤ length (now w)) ⌝ }
+    ensures { λ y. ⌜ ((view : View) → Answers (ruleOf view (CALL f x) t (now (w .entry))) t y (now (w .entry)) (now (w .exit))) ⌝ }
+{
+    let m = t.mode;
+    let depth = t.depth;
+    let Sought::Found(b) = lookup::seek(w, depth, m, x) else {
+        return Advanced::Asks(Effect::Refuse(refusals::NAME_UNBOUND));
+    };
+    let v = b.value;
+    Advanced::Moved(area::levels::call(f, v, t, w))
+}
+
+// One step. LET and CALL, which every loop of a program is made of, need not be told from the other moves a second time.
+fn once(view: View, program: &[u8], nodes: usize, t: Stand, w: &mut [u8]) -> Advanced
+    requires { ⌜ (t .depth .frames ≤ maxFrames) × (areaSize ≤ length (now w)) ⌝ }
+    ensures { λ y. ⌜ Advances view (now (program .entry)) nodes t y (now (w .entry)) (now (w .exit)) ⌝ }
+{
+    let node = table::node(program, nodes, w, t.node);
+    match node {
+        Node::LET(x, e1, e2) => Advanced::Moved(area::levels::put_down(x, e1, e2, t, w)),
+        Node::CALL(f, x) => call(f, x, t, w),
+        _ => by_rule(view, node, t, w),
+    }
+}
+
+// Where a step leads that another one may follow.
+enum Onward {
+    To(Stand),
+    Not,
+}
+
+fn follows(y: Advanced) -> Onward
+    ensures { λ r. ⌜ r ≡ onwardOf y ⌝ }
+{
+    let Advanced::Moved(next) = y else {
+        return Onward::Not;
+    };
+    let Next::On(t) = next else {
+        return Onward::Not;
+    };
+    Onward::To(t)
+}
+
+// Some moves, the stand that they led to, and what the step from there came to.
+pub struct Gone {
+    pub moves: u32,
+    pub stand: Stand,
+    pub came: Advanced,
+}
+
+// Steps as long as control just moves, at most `most` of them.
+pub fn far(view: View, program: &[u8], nodes: usize, start: Stand, most: u32, w: &mut [u8]) -> Gone
+    requires { ⌜ (1 ≤ most) × (start .depth .frames ≤ maxFrames) × (areaSize ≤ length (now w)) ⌝ }
+    ensures { λ f. ⌜ GoesFar view (now (program .entry)) nodes start most f (now (w .entry)) (now (w .exit)) ⌝ }
+{
+    let last = most - 1;
+    let mut t = start;
+    let mut k: u32 = 0;
+    loop {
+        let came = once(view, program, nodes, t, w);
+        let Onward::To(next) = follows(came) else {
+            return Gone {
+                moves: k,
+                stand: t,
+                came,
+            };
+        };
+        if k == last {
+            return Gone {
+                moves: k,
+                stand: t,
+                came,
+            };
+        }
+        t = next;
+        k += 1;
+    }
 }

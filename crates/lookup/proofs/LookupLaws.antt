@@ -44,11 +44,11 @@ module _ (x : Name) (m : PartySet) (w : List ℕ) (d : ℕ) where
       (sym (List·getD-eq-default (namesAt w d) Unbound {n = x .index} (rw (names-length w d) h)))
 
 -- what the answer says of the name
-found-is : (x : Name) (b : Bound) (y : Binding) → soughtOf x b ≡ Sought′.Found y → b ≡ To (y .value)
+pub found-is : (x : Name) (b : Bound) (y : Binding) → soughtOf x b ≡ Sought′.Found y → b ≡ To (y .value)
 found-is x Unbound y e = absurd (let z : _≡_ {A = ℕ} 0 1 = cc in omega arith)
 found-is x (To v) y e = let q : v ≡ y .value = cc in ap To q
 
-missing-is : (x : Name) (b : Bound) (y : Name) → soughtOf x b ≡ Sought′.Unbound y → b ≡ Unbound
+pub missing-is : (x : Name) (b : Bound) (y : Name) → soughtOf x b ≡ Sought′.Unbound y → b ≡ Unbound
 missing-is x Unbound y e = refl
 missing-is x (To v) y e = absurd (let z : _≡_ {A = ℕ} 0 1 = cc in omega arith)
 

@@ -25,6 +25,11 @@ unfolding numberAt
 number-past zero p i h = refl
 number-past (suc k) p i h = rw (List·getD-eq-default p 0 h, number-past k p (i + 1) (omega arith))
 
+-- nor a second one where the first is the last
+pub number-last : (p : List ℕ) (i : ℕ) → length p ≤ i + 1 → numberAt 2 p i ≡ getD p i 0
+unfolding numberAt
+number-last p i h = omega (arith, number-past 1 p (i + 1) h)
+
 -- two numbers of two bytes make an integer
 pub two-halves : (p : List ℕ) (i : ℕ) {a b : ℕ} → a ≡ numberAt 2 p i → b ≡ numberAt 2 p (i + 2) → signed (a + 65536 * b) ≡ integerAt p i
 unfolding numberAt

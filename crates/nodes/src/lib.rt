@@ -63,13 +63,15 @@ fn wide(b: u8) -> u32
     b as u32
 }
 
+// One test for both bytes, so that they can be read as one.
 pub fn half(p: &[u8], i: usize) -> u16
+    requires { ⌜ i < 262144 ⌝ }
     ensures { λ r. ⌜ r ≡ numberAt 2 (now (p .entry)) i ⌝ }
 {
-    if i < p.len() {
-        return (wide(p[i]) + 256 * wide(byte(p, i + 1))) as u16;
+    if i + 1 < p.len() {
+        return (wide(p[i]) + 256 * wide(p[i + 1])) as u16;
     }
-    0
+    byte(p, i) as u16
 }
 
 pub fn word(p: &[u8], i: usize) -> i32
@@ -80,6 +82,7 @@ pub fn word(p: &[u8], i: usize) -> i32
 }
 
 pub fn set_at(p: &[u8], i: usize) -> PartySet
+    requires { ⌜ i < 262144 ⌝ }
     ensures { λ r. ⌜ r ≡ setAt (now (p .entry)) i ⌝ }
 {
     PartySet { bits: half(p, i) }

@@ -39,6 +39,7 @@ fn party_fits(p: &[u8], i: usize, n: u8) -> bool
 
 // q: a set of parties below n that is not empty.
 fn full_set(p: &[u8], i: usize, n: u8) -> bool
+    requires { ⌜ i < 262144 ⌝ }
     ensures { λ r. ⌜ r ≡ isFull n (setAt (now (p .entry)) i) ⌝ }
 {
     let q = set_at(p, i);
@@ -47,6 +48,7 @@ fn full_set(p: &[u8], i: usize, n: u8) -> bool
 
 // e, e1, e2: a node before the record's own.
 fn part_fits(p: &[u8], i: usize, own: usize) -> bool
+    requires { ⌜ i < 262144 ⌝ }
     ensures { λ r. ⌜ r ≡ ltb (numberAt 2 (now (p .entry)) i) own ⌝ }
 {
     (half(p, i) as usize) < own

@@ -15,9 +15,16 @@ use Rattle.area.specs.Levels.{tableSize, controlOf}
 use Rattle.table.specs.Table.{PlacesIn}
 use Rattle.area.specs.declared.stand.Stand.{Stand}
 use Rattle.table.proofs.TableLaws.{places-kept}
-use Rattle.single_step.specs.Steps.{Lists, Given, Stands, Comes, DeepAfter, StepsOn}
+use Rattle.rules.specs.declared.effects.View.the-variants.{Whole}
+use Rattle.area.specs.declared.stand.Next.the-variants as Next′
+use Rattle.advance.specs.Advances.{Advances, Moves}
+use Rattle.advance.specs.declared.Advanced.the-variants.{Moved}
+use Rattle.advance.proofs.AdvanceLaws.{moves-keep}
+use Rattle.single_step.specs.Steps.{Lists, Given, Stands, Comes, DeepAfter, StepsOn, Strides}
+use Rattle.single_step.proofs.PerformLaws.{move-steps}
 use Rattle.single.specs.Runs.{RunsOn}
 use Rattle.single_step.specs.declared.Stepped.{Stepped}
+use Rattle.single_step.specs.declared.Stride.{Stride}
 use Rattle.single_step.specs.declared.Stepped.the-variants.{On, Ended, Stopped}
 use Rattle.single.specs.declared.runs.Answer.the-variants as Answer′
 
@@ -78,7 +85,7 @@ module _ (bs : List ℕ) (nodes room n : ℕ) (is : List ℤ) (end : List ℕ) (
           sym (run-step S (budget - k) k (controlOf t (l .work)) b (omega arith)) ∙ e,
         )
 
-    pub goes-on : (t′ : Stand) → y ≡ On t′ → Going t′ (k + 1) l′
+    goes-on : (t′ : Stand) → y ≡ On t′ → Going t′ (k + 1) l′
     unfolding Onward
     goes-on t′ e =
         record {
@@ -92,7 +99,7 @@ module _ (bs : List ℕ) (nodes room n : ℕ) (is : List ℤ) (end : List ℕ) (
               (b, rw z (ap (run (record { program = p; room = room }) (budget - k - 1)) (sym es) ∙ r), st′);
         }
 
-    pub goes-end : y ≡ Ended → RunsOn bs nodes room n is end budget t₀ (Answer′.Ended (k + 1)) l₀ (l′ .bytes) (l′ .lengths)
+    goes-end : y ≡ Ended → RunsOn bs nodes room n is end budget t₀ (Answer′.Ended (k + 1)) l₀ (l′ .bytes) (l′ .lengths)
     unfolding Onward
     goes-end e =
         record {
@@ -103,7 +110,7 @@ module _ (bs : List ℕ) (nodes room n : ℕ) (is : List ℤ) (end : List ℕ) (
               (v, b, sym r ∙ ap (run S (budget - k - 1)) es ∙ run-ended S (budget - k - 1) (k + 1) v b, holds);
         }
 
-    pub goes-stop : (m : ℕ) → y ≡ Stopped m → RunsOn bs nodes room n is end budget t₀ (Answer′.Stopped m (t .node) k) l₀ (l′ .bytes) (l′ .lengths)
+    goes-stop : (m : ℕ) → y ≡ Stopped m → RunsOn bs nodes room n is end budget t₀ (Answer′.Stopped m (t .node) k) l₀ (l′ .bytes) (l′ .lengths)
     unfolding Onward
     goes-stop m e =
         record {
@@ -113,6 +120,40 @@ module _ (bs : List ℕ) (nodes room n : ℕ) (is : List ℤ) (end : List ℕ) (
               let S : Setting = record { program = p; room = room } in
               (b, sym r ∙ ap (run S (budget - k - 1)) es ∙ run-stopped S (budget - k - 1) k m (t .node) b, holds);
         }
+
+  -- moves alone: each is a step that leads on
+  module _ (few : nodes ≤ 1024) (t : Stand) (k : ℕ) (l : Lists) (go : Going t k l) where
+    abbrev Gets : ℕ → Stand → List ℕ → Type 0
+    Gets j u v = k + j ≤ budget → Going u (k + j) (record { bytes = l .bytes; lengths = l .lengths; work = v; at = l .at })
+
+    gets-on : (j : ℕ) (s u : Stand) (x v : List ℕ) → Gets j s x → Advances Whole bs nodes s (Moved (Next′.On u)) x v → Gets (j + 1) u v
+    gets-on j s u x v g a h =
+        let z : k + j + 1 ≡ k + (j + 1) = omega arith in
+        subst (λ (i : ℕ). Going u i (record { bytes = l .bytes; lengths = l .lengths; work = v; at = l .at })) z
+        (goes-on s (k + j) _ _ (On u) (g (omega arith)) few (omega arith) (move-steps bs nodes room n is end s u (l .bytes) (l .lengths) (l .at) x v a) u refl)
+
+    goes-far : (j : ℕ) (u : Stand) (v : List ℕ) → Moves Whole bs nodes j t (l .work) u v → Gets j u v
+    goes-far =
+        let z : k ≡ k + 0 = omega arith in
+        moves-keep Whole bs nodes t (l .work) Gets (λ h. subst (λ (i : ℕ). Going t i l) z go) gets-on
+
+  -- ---- a stride: its moves, and the step from where they led
+  module _ (t : Stand) (k : ℕ) (l l′ : Lists) (s : Stride) (go : Going t k l) (few : nodes ≤ 1024) (h : k < budget) (d : Strides bs nodes room n is end (budget - k) t s l l′) where
+    pub stride-within : k + s .moves < budget
+    stride-within = let fewer = d .0 in omega arith
+
+    -- the stand that the moves led to
+    there : Going (d .1) (k + s .moves) (record { bytes = l .bytes; lengths = l .lengths; work = d .2; at = l .at })
+    there = let fewer = d .0 in goes-far few t k l go (s .moves) (d .1) (d .2) (d .3) (omega arith)
+
+    pub stride-on : (t′ : Stand) → s .came ≡ On t′ → Going t′ (k + s .moves + 1) l′
+    stride-on = goes-on (d .1) (k + s .moves) _ l′ (s .came) there few stride-within (d .5)
+
+    pub stride-end : s .came ≡ Ended → RunsOn bs nodes room n is end budget t₀ (Answer′.Ended (k + s .moves + 1)) l₀ (l′ .bytes) (l′ .lengths)
+    stride-end = goes-end (d .1) (k + s .moves) _ l′ (s .came) there few stride-within (d .5)
+
+    pub stride-stop : (m : ℕ) → s .came ≡ Stopped m → RunsOn bs nodes room n is end budget t₀ (Answer′.Stopped m (s .node) (k + s .moves)) l₀ (l′ .bytes) (l′ .lengths)
+    stride-stop m e = rw (d .4) (goes-stop (d .1) (k + s .moves) _ l′ (s .came) there few stride-within (d .5) m e)
 
   pub goes-out : (t : Stand) (k : ℕ) (l : Lists) → Going t k l → budget ≤ k → RunsOn bs nodes room n is end budget t₀ (Answer′.Budget k) l₀ (l .bytes) (l .lengths)
   unfolding run

@@ -47,11 +47,11 @@ fn run_on(
     let mut t = start;
     let mut k: u32 = 0;
     while k < budget {
-        let node = t.node;
-        match single_step::step(
+        let stride = single_step::step(
             program,
             nodes,
             t,
+            budget - k,
             n,
             room,
             inputs,
@@ -60,7 +60,10 @@ fn run_on(
             bytes,
             lengths,
             work,
-        ) {
+        );
+        let came = stride.came;
+        k += stride.moves;
+        match came {
             Stepped::On(next) => {
                 t = next;
             }
@@ -68,7 +71,7 @@ fn run_on(
                 return Answer::Ended(k + 1);
             }
             Stepped::Stopped(refusal) => {
-                return Answer::Stopped(refusal, node, k);
+                return Answer::Stopped(refusal, stride.node, k);
             }
         }
         k += 1;

@@ -32,11 +32,16 @@ use Rattle.area.specs.Levels.{tableSize, controlOf, namesAt}
 use Rattle.table.specs.Table.{PlacesIn, nodeBy}
 use Rattle.table.proofs.TableLaws.{node-by}
 use Rattle.area.specs.declared.stand.Stand.{Stand}
+use Rattle.area.specs.declared.stand.Next.the-variants as Next′
+use Rattle.advance.specs.Advances.{Advances}
+use Rattle.advance.specs.declared.Advanced.the-variants as Advanced′
 use Rattle.inputs.specs.Inputs.{InputsHold}
 use Rattle.single_step.specs.Steps.{Lists, Given, Stands, Comes, DeepAfter, Moved, entered, EntryOf, Settles, StepsOn}
 use Rattle.single_step.specs.declared.Entry.{Entry}
 use Rattle.single_step.specs.declared.Entry.the-variants.{Stops, Notes}
 use Rattle.single_step.specs.declared.Stepped.{Stepped}
+use Rattle.single_step.specs.declared.Stepped.the-variants.{On}
+use Rattle.single_step.proofs.StepLaws.{arrives-on, moved-by}
 use Rattle.ledger.proofs.RowLaws.{holds-same}
 use Rattle.inputs.proofs.InputLaws.{inputs-same}
 
@@ -155,3 +160,12 @@ steps-on bs nodes room n is end t y l l′ effect e d =
       table = d .table;
       deep = d .deep;
     }
+
+-- a move that leads on is a step
+pub move-steps : (bs : List ℕ) (nodes room n : ℕ) (is : List ℤ) (end : List ℕ) (t u : Stand) (xs ls at w v : List ℕ) → Advances Whole bs nodes t (Advanced′.Moved (Next′.On u)) w v
+    → StepsOn bs nodes room n is end t (On u) (record { bytes = xs; lengths = ls; work = w; at = at }) (record { bytes = xs; lengths = ls; work = v; at = at })
+move-steps bs nodes room n is end t u xs ls at w v a =
+    let (mv, asked, g) = a .moved (Next′.On u) refl in
+    steps-on bs nodes room n is end t (On u) _ _ (Goes mv) asked
+    (goes room n is end t (On u) (record { bytes = xs; lengths = ls; work = w; at = at }) (record { bytes = xs; lengths = ls; work = v; at = at }) mv refl
+    (moved-by room n mv t (Next′.On u) (On u) xs ls w xs ls v g (arrives-on room n xs ls u)))

@@ -1,6 +1,6 @@
 -- One step of the single run, in the lent bytes: from a stand, books and an area to what the step of the rules comes to.
 use mathlib.Core.Path.{_≡_}
-use Prim.Native.Nat.{ℕ, _+_, _*_, _≤_}
+use Prim.Native.Nat.{ℕ, _+_, _*_, _≤_, _<_}
 use mathlib.Core.List.{List}
 use mathlib.Core.Option.{some}
 use lib.IntN.{ℤ}
@@ -12,6 +12,7 @@ use Rattle.program.specs.Check.{Program, good, checked}
 use Rattle.rules.specs.Books.{Books}
 use Rattle.rules.specs.Moves.{Control, move}
 use Rattle.rules.specs.Single.{Setting, Single, going, ended, stopped, noteAll, arrive, settleAll, perform, step}
+use Rattle.rules.specs.declared.effects.View.the-variants.{Whole}
 use Rattle.rules.specs.declared.effects.Move.{Move}
 use Rattle.rules.specs.declared.effects.Move.the-variants.{Hand}
 use Rattle.rules.specs.declared.effects.Effect.{Effect}
@@ -19,12 +20,14 @@ use Rattle.area.specs.Levels.{tableSize, controlOf, nextOf, DeepEnough}
 use Rattle.table.specs.Table.{PlacesIn}
 use Rattle.area.specs.declared.stand.Stand.{Stand}
 use Rattle.area.specs.declared.stand.Next.{Next}
+use Rattle.advance.specs.Advances.{Moves}
 use Rattle.ledger.specs.Ledger.{Holds, Fits}
 use Rattle.inputs.specs.Inputs.{InputsHold}
 use Rattle.single_step.specs.declared.Entry.{Entry}
 use Rattle.single_step.specs.declared.Entry.the-variants.{Stops, Notes}
 use Rattle.single_step.specs.declared.Stepped.{Stepped}
 use Rattle.single_step.specs.declared.Stepped.the-variants.{On, Ended, Stopped}
+use Rattle.single_step.specs.declared.Stride.{Stride}
 
 -- the lists that a run writes: the records, the lengths, the area, and where each party's next input is
 pub record Lists : Type 0 where
@@ -105,3 +108,9 @@ pub record StepsOn (bs : List ℕ) (nodes room n : ℕ) (is : List ℤ) (end : L
       → (k : ℕ) (b : Books) → Stands G b l → Comes y G k (t .node) (step (record { program = p; room = room }) (going k (controlOf t (l .work)) b)) l′
   pub table : take tableSize (l′ .work) ≡ take tableSize (l .work)
   pub deep : DeepAfter y
+
+-- some steps of a good program's run: moves, fewer than `most`, from t to u, and the step from there
+abbrev pub Strides : (bs : List ℕ) (nodes room n : ℕ) → List ℤ → (end : List ℕ) (most : ℕ) → Stand → Stride → (l l′ : Lists) → Type 0
+Strides bs nodes room n is end most t s l l′ =
+    (s .moves < most) × (u : Stand) × (v : List ℕ) × Moves Whole bs nodes (s .moves) t (l .work) u v × (s .node ≡ u .node)
+    × StepsOn bs nodes room n is end u (s .came) (record { bytes = l .bytes; lengths = l .lengths; work = v; at = l .at }) l′

@@ -5,7 +5,7 @@ ghost use lib.ListN.{length};
 ghost use Rattle.limits.specs.Limits.{maxParties, maxFrames};
 ghost use Rattle.parties.specs.Sets.{count};
 ghost use Rattle.rules.specs.Lent.{areaSize};
-ghost use Rattle.single_step.specs.Steps.{Arrives, Moved, EntryOf, Settles, StepsOn};
+ghost use Rattle.single_step.specs.Steps.{Arrives, Moved, EntryOf, Settles, Strides};
 ghost use Rattle.rules.specs.RunLaws.{Sound};
 ghost use Rattle.advance.specs.Advances.{Asked};
 use advance::Advanced;
@@ -126,11 +126,19 @@ fn entry_of(effect: Effect, m: PartySet, inputs: &[i32], at: &mut [usize], end: 
     }
 }
 
-// One step: control moves by the rule of its node, or what the rule asks for besides is done.
+// Some moves, the node that they led to, and what the step from there came to.
+pub struct Stride {
+    pub moves: u32,
+    pub node: u16,
+    pub came: Stepped,
+}
+
+// Steps as long as control just moves, at most `most` of them; what the rule asks for besides is done.
 pub fn step(
     program: &[u8],
     nodes: usize,
     t: Stand,
+    most: u32,
     n: u8,
     room: usize,
     inputs: &[i32],
@@ -139,15 +147,24 @@ pub fn step(
     bytes: &mut [u8],
     lengths: &mut [usize],
     work: &mut [u8],
-) -> Stepped
-    requires { ⌜ (n ≤ maxParties) × (n * room ≤ length (now bytes)) × (n ≤ length (now lengths)) × (t .depth .frames ≤ maxFrames) × (areaSize ≤ length (now work)) × (maxParties ≤ length (now at)) × (maxParties ≤ length (now end)) ⌝ }
-    ensures { λ y. ⌜ StepsOn (now (program .entry)) nodes room n (now (inputs .entry)) (now (end .entry)) t y (record { bytes = now (bytes .entry); lengths = now (lengths .entry); work = now (work .entry); at = now (at .entry) }) (record { bytes = now (bytes .exit); lengths = now (lengths .exit); work = now (work .exit); at = now (at .exit) }) ⌝ }
+) -> Stride
+    requires { ⌜ (1 ≤ most) × (n ≤ maxParties) × (n * room ≤ length (now bytes)) × (n ≤ length (now lengths)) × (t .depth .frames ≤ maxFrames) × (areaSize ≤ length (now work)) × (maxParties ≤ length (now at)) × (maxParties ≤ length (now end)) ⌝ }
+    ensures { λ s. ⌜ Strides (now (program .entry)) nodes room n (now (inputs .entry)) (now (end .entry)) most t s (record { bytes = now (bytes .entry); lengths = now (lengths .entry); work = now (work .entry); at = now (at .entry) }) (record { bytes = now (bytes .exit); lengths = now (lengths .exit); work = now (work .exit); at = now (at .exit) }) ⌝ }
 {
-    match advance::advance(View::Whole, program, nodes, t, work) {
-        Advanced::Moved(next) => arrive(next, n, room, bytes, lengths),
+    let gone = advance::far(View::Whole, program, nodes, t, most, work);
+    let moves = gone.moves;
+    let stand = gone.stand;
+    let node = stand.node;
+    let advanced = gone.came;
+    match advanced {
+        Advanced::Moved(next) => {
+            let came = arrive(next, n, room, bytes, lengths);
+            Stride { moves, node, came }
+        }
         Advanced::Asks(effect) => {
-            let entry = entry_of(effect, t.mode, inputs, at, end);
-            settled(entry, t, n, room, bytes, lengths, work)
+            let entry = entry_of(effect, stand.mode, inputs, at, end);
+            let came = settled(entry, stand, n, room, bytes, lengths, work);
+            Stride { moves, node, came }
         }
     }
 }

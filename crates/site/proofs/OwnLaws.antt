@@ -17,9 +17,6 @@ use Rattle.values.specs.Values.{held}
 use Rattle.values.specs.declared.value.Value.{Value}
 use Rattle.values.specs.declared.value.Held.{Held}
 use Rattle.values.specs.declared.value.Held.the-variants.{Number, Other}
-use Rattle.cells.specs.declared.Bound.{Bound}
-use Rattle.cells.specs.declared.Bound.the-variants.{Unbound}
-use Rattle.cells.specs.declared.Bound.the-variants.{To as To′}
 use Rattle.program.specs.Check.{Program, good, checked, nodeAt}
 use Rattle.nodes.specs.Nodes.{operationOf, jointOf}
 use Rattle.nodes.specs.declared.Node.{Node}
@@ -46,6 +43,7 @@ use Rattle.rules.proofs.effects.Effect.{the-type}
 use Rattle.lookup.specs.Lookup.{soughtOf}
 use Rattle.lookup.specs.declared.Sought.the-variants as Sought′
 use Rattle.lookup.specs.declared.Sought.the-variants.{Found}
+use Rattle.lookup.proofs.LookupLaws.{found-is, missing-is}
 use Rattle.area.specs.Levels.{namesAt, controlOf}
 use Rattle.table.specs.Table.{PlacesIn, nodeBy}
 use Rattle.area.specs.declared.stand.Stand.{Stand}
@@ -160,30 +158,22 @@ pub meeting-asked : (view : View) (bs : List ℕ) (nodes : ℕ) (t : Stand) (w :
 meeting-asked view bs nodes t w e h = h ∙ ap (λ (j : JointNode). meetingAt view j (t .mode) (namesAt w (t .depth .frames))) e ∙ asks-at view (nodeBy bs nodes w (t .node)) (t .mode) (namesAt w (t .depth .frames))
 
 -- ---- SHARE and REVEAL, by what their one name is bound to
-sought-found : (x : Name) (o : Bound) (b : Binding) → Found b ≡ soughtOf x o → o ≡ To′ (b .value)
-sought-found x Unbound b h = absurd (let z : _≡_ {A = ℕ} 0 1 = cc in omega arith)
-sought-found x (To′ v) b h = cc
-
-sought-not : (x y : Name) (o : Bound) → Sought′.Unbound y ≡ soughtOf x o → o ≡ Unbound
-sought-not x y Unbound h = refl
-sought-not x y (To′ v) h = absurd (let z : _≡_ {A = ℕ} 0 1 = cc in omega arith)
-
 module _ (view : View) (m : PartySet) (b : Names) (x : Name) where
   pub share-bound : (a : Party) (q : PartySet) (v : Binding) → Found v ≡ soughtOf x (look m b x) → rule view (SHARE a q x) m b ≡ atShare view m a q (v .value)
   unfolding rule namesOf lookAll judge
-  share-bound a q v h = rw (sought-found x (look m b x) v h)
+  share-bound a q v h = rw (found-is x (look m b x) v (sym h))
 
   pub share-unbound : (a : Party) (q : PartySet) (y : Name) → Sought′.Unbound y ≡ soughtOf x (look m b x) → Not ≡ meetingOf (rule view (SHARE a q x) m b)
   unfolding rule namesOf lookAll
-  share-unbound a q y h = rw (sought-not x y (look m b x) h)
+  share-unbound a q y h = rw (missing-is x (look m b x) y (sym h))
 
   pub reveal-bound : (q : PartySet) (v : Binding) → Found v ≡ soughtOf x (look m b x) → rule view (REVEAL q x) m b ≡ atReveal view m q (v .value)
   unfolding rule namesOf lookAll judge
-  reveal-bound q v h = rw (sought-found x (look m b x) v h)
+  reveal-bound q v h = rw (found-is x (look m b x) v (sym h))
 
   pub reveal-unbound : (q : PartySet) (y : Name) → Sought′.Unbound y ≡ soughtOf x (look m b x) → Not ≡ meetingOf (rule view (REVEAL q x) m b)
   unfolding rule namesOf lookAll
-  reveal-unbound q y h = rw (sought-not x y (look m b x) h)
+  reveal-unbound q y h = rw (missing-is x (look m b x) y (sym h))
 
 -- ---- a site that stands at t
 -- no meeting: it acts
