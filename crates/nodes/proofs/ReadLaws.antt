@@ -10,7 +10,7 @@ use Rattle.numbers.specs.Integers.{signed}
 use Rattle.numbers.specs.declared.integers.Operation.the-variants.{Lt}
 use Rattle.words.specs.Words.{numberAt, integerAt}
 use Rattle.words.proofs.WordLaws.{number-same}
-use Rattle.nodes.specs.Nodes.{nodeOf, nodeIn, nameIn, jointOf, operationOf}
+use Rattle.nodes.specs.Nodes.{nodeOf, nodeIn, nameIn, jointNode, operationOf}
 use Rattle.parties.specs.SetBytes.{setAt}
 use Rattle.nodes.specs.declared.Node.the-variants.{READ, SHARE, REVEAL}
 use Rattle.nodes.specs.declared.JointNode.the-variants.{Neither}
@@ -66,10 +66,10 @@ other-read k b =
     k
 
 -- and those that no arm of `joint_node_at` has are no joint node's
-pub other-neither : (k : ℕ) (b : List ℕ) → NoneOf (9 ∷ 8 ∷ []) k → Neither ≡ jointOf (nodeOf k b)
-unfolding nodeOf jointOf
+pub other-neither : (k : ℕ) (b : List ℕ) → NoneOf (9 ∷ 8 ∷ []) k → Neither ≡ jointNode (nodeOf k b)
+unfolding nodeOf jointNode
 other-neither k b =
-    every (λ (j : ℕ). NoneOf (9 ∷ 8 ∷ []) j → Neither ≡ jointOf (nodeOf j b)) 14
+    every (λ (j : ℕ). NoneOf (9 ∷ 8 ∷ []) j → Neither ≡ jointNode (nodeOf j b)) 14
     (λ n. refl, (λ n. refl, (λ n. refl, (λ n. refl, (λ n. refl, (λ n. refl, (λ n. refl, (λ n. refl, (λ n. absurd (n .0 .1 refl), (λ n. absurd (n .1 refl), (λ n. refl, (λ n. refl, (λ n. refl, (λ n. refl, tt))))))))))))))
     (λ m n. refl)
     k

@@ -57,17 +57,17 @@ unfoldable pub nodeIn : List ℕ → ℕ → Node
 nodeIn p at = nodeOf (getD p at 0) (drop (at + 1) p)
 
 -- a node as whoever looks only for meetings sees it
-unfoldable pub jointOf : Node → JointNode
-jointOf (VAR x) = Neither
-jointOf (INT i) = Neither
-jointOf (OP o x y) = Neither
-jointOf (MUX x y z) = Neither
-jointOf READ = Neither
-jointOf (WRITE x) = Neither
-jointOf (EMBED x) = Neither
-jointOf (SHARE a q x) = SHARE′ a q x
-jointOf (REVEAL q x) = REVEAL′ q x
-jointOf (LET x e1 e2) = Neither
-jointOf (CASE x e1 e2) = Neither
-jointOf (PAR p e) = Neither
-jointOf (CALL f x) = Neither
+unfoldable pub jointNode : Node → JointNode
+jointNode (VAR x) = Neither
+jointNode (INT i) = Neither
+jointNode (OP o x y) = Neither
+jointNode (MUX x y z) = Neither
+jointNode READ = Neither
+jointNode (WRITE x) = Neither
+jointNode (EMBED x) = Neither
+jointNode (SHARE a q x) = SHARE′ a q x
+jointNode (REVEAL q x) = REVEAL′ q x
+jointNode (LET x e1 e2) = Neither
+jointNode (CASE x e1 e2) = Neither
+jointNode (PAR p e) = Neither
+jointNode (CALL f x) = Neither

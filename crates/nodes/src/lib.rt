@@ -5,7 +5,7 @@ ghost use Prim.Native.Nat.{_<_};
 ghost use lib.ListN.{getD};
 ghost use Rattle.words.specs.Words.{numberAt, integerAt};
 ghost use Rattle.parties.specs.SetBytes.{setAt};
-ghost use Rattle.nodes.specs.Nodes.{operationOf, nameIn, nodeIn, jointOf};
+ghost use Rattle.nodes.specs.Nodes.{operationOf, nameIn, nodeIn, jointNode};
 use limits::Name;
 use limits::Party;
 use numbers::integers::Operation;
@@ -129,7 +129,7 @@ pub enum JointNode {
 
 pub fn joint_node_at(p: &[u8], at: usize) -> JointNode
     requires { ⌜ at < 65536 ⌝ }
-    ensures { λ r. ⌜ r ≡ jointOf (nodeIn (now (p .entry)) at) ⌝ }
+    ensures { λ r. ⌜ r ≡ jointNode (nodeIn (now (p .entry)) at) ⌝ }
 {
     let b = at + 1;
     match byte(p, at) {

@@ -18,7 +18,7 @@ use Rattle.values.specs.declared.value.Value.{Value}
 use Rattle.values.specs.declared.value.Held.{Held}
 use Rattle.values.specs.declared.value.Held.the-variants.{Number, Other}
 use Rattle.program.specs.Check.{Program, good, checked, nodeAt}
-use Rattle.nodes.specs.Nodes.{operationOf, jointOf}
+use Rattle.nodes.specs.Nodes.{operationOf, jointNode}
 use Rattle.nodes.specs.declared.Node.{Node}
 use Rattle.nodes.specs.declared.Node.the-variants.{VAR, INT, OP, MUX, READ, WRITE, EMBED, SHARE, REVEAL, LET, CASE, PAR, CALL}
 use Rattle.nodes.specs.declared.JointNode.{JointNode}
@@ -137,8 +137,8 @@ rule-not view e m b n = go (lookAll m b (namesOf e))
     go (unbound x) = refl
 
 -- so it is enough to know the joint node
-asks-at : (view : View) (e : Node) (m : PartySet) (b : Names) → meetingAt view (jointOf e) m b ≡ meetingOf (rule view e m b)
-unfolding judge jointOf
+asks-at : (view : View) (e : Node) (m : PartySet) (b : Names) → meetingAt view (jointNode e) m b ≡ meetingOf (rule view e m b)
+unfolding judge jointNode
 asks-at view (VAR x) m b = rule-not view (VAR x) m b (λ vs. refl)
 asks-at view (INT i) m b = rule-not view (INT i) m b (λ vs. refl)
 asks-at view (OP o x y) m b = rule-not view (OP o x y) m b (λ vs. two-not m (operate (operationOf o)) (held m (first vs)) (held m (second vs)))
@@ -153,7 +153,7 @@ asks-at view (CASE x e1 e2) m b = rule-not view (CASE x e1 e2) m b (λ vs. clear
 asks-at view (PAR p e) m b = rule-not view (PAR p e) m b (λ vs. either-not (goesIn view m p) _ _ refl refl)
 asks-at view (CALL f x) m b = rule-not view (CALL f x) m b (λ vs. refl)
 
-pub meeting-asked : (view : View) (bs : List ℕ) (nodes : ℕ) (t : Stand) (w : List ℕ) {joint : JointNode} {r : Invitation} → joint ≡ jointOf (nodeBy bs nodes w (t .node))
+pub meeting-asked : (view : View) (bs : List ℕ) (nodes : ℕ) (t : Stand) (w : List ℕ) {joint : JointNode} {r : Invitation} → joint ≡ jointNode (nodeBy bs nodes w (t .node))
     → r ≡ meetingAt view joint (t .mode) (namesAt w (t .depth .frames)) → r ≡ meetingOf (ruleAt view bs nodes t w)
 meeting-asked view bs nodes t w e h = h ∙ ap (λ (j : JointNode). meetingAt view j (t .mode) (namesAt w (t .depth .frames))) e ∙ asks-at view (nodeBy bs nodes w (t .node)) (t .mode) (namesAt w (t .depth .frames))
 

@@ -3,7 +3,7 @@ ghost use mathlib.Core.Path.{_≡_};
 ghost use Prim.Native.Nat.{_≤_};
 ghost use lib.ListN.{length};
 ghost use Rattle.rules.specs.Lent.{areaSize};
-ghost use Rattle.nodes.specs.Nodes.{jointOf};
+ghost use Rattle.nodes.specs.Nodes.{jointNode};
 ghost use Rattle.table.specs.Table.{nodeBy, Prepared};
 use nodes::JointNode;
 use nodes::Node;
@@ -31,7 +31,7 @@ pub fn node(program: &[u8], nodes: usize, w: &[u8], k: u16) -> Node
 
 // The same for whoever looks only for meetings. It does not go by `node`, which is inlined because it has one caller.
 pub fn joint_node(program: &[u8], nodes: usize, w: &[u8], k: u16) -> JointNode
-    ensures { λ r. ⌜ r ≡ jointOf (nodeBy (now (program .entry)) nodes (now (w .entry)) k) ⌝ }
+    ensures { λ r. ⌜ r ≡ jointNode (nodeBy (now (program .entry)) nodes (now (w .entry)) k) ⌝ }
 {
     let own = k as usize;
     if nodes <= own {

@@ -1,7 +1,7 @@
 -- `nodes::joint_node_at` meets its contract. Assumes nothing.
 use mathlib.Core.Path.{refl, ap, _∙_}
 use borrow.Author.Needs.{needs}
-use Rattle.nodes.specs.Nodes.{jointOf}
+use Rattle.nodes.specs.Nodes.{jointNode}
 use Rattle.nodes.proofs.ReadLaws.{kind-is, share-in, reveal-in, other-neither}
 use Rattle.nodes.proofs.joint_node_at.Statement.{statement}
 use Rattle.nodes.proofs.joint_node_at.Tie as tie
@@ -37,15 +37,15 @@ name-at-requires-2 : tie.Need-name-at-requires-2
 name-at-requires-2 c κs = search needs
 
 returns : tie.Need-returns
-unfolding jointOf
-returns c = rw (c .name-at .ensures, c .before .set-at .ensures, c .before .before .byte2 .ensures) (ap jointOf (share-in _ _ (c .before .before .before .before .byte .ensures) (c .before .before .before .match .keys1)))
+unfolding jointNode
+returns c = rw (c .name-at .ensures, c .before .set-at .ensures, c .before .before .byte2 .ensures) (ap jointNode (share-in _ _ (c .before .before .before .before .byte .ensures) (c .before .before .before .match .keys1)))
 
 returns-2 : tie.Need-returns-2
-unfolding jointOf
-returns-2 c = rw (c .name-at2 .ensures, c .before .set-at2 .ensures) (ap jointOf (reveal-in _ _ (c .before .before .before .byte .ensures) (c .before .before .match .keys2)))
+unfolding jointNode
+returns-2 c = rw (c .name-at2 .ensures, c .before .set-at2 .ensures) (ap jointNode (reveal-in _ _ (c .before .before .before .byte .ensures) (c .before .before .match .keys2)))
 
 returns-3 : tie.Need-returns-3
-returns-3 c = other-neither _ _ (c .match .rest) ∙ ap jointOf (kind-is _ _ _ (c .before .byte .ensures) refl)
+returns-3 c = other-neither _ _ (c .match .rest) ∙ ap jointNode (kind-is _ _ _ (c .before .byte .ensures) refl)
 
 pub joint-node-at-spec : {M : Type 1} → statement M
 joint-node-at-spec =
