@@ -74,7 +74,7 @@ pub fn step(
     bytes: &mut [u8],
     area: &mut [u8],
 ) -> Stepped
-    requires { ⌜ (t .depth .frames ≤ maxFrames) × (areaSize ≤ length (now area)) ⌝ }
+    requires { ⌜ (t .depth .frames ≤ maxFrames) × (areaSize ≤ length (now area)) × (nodes ≤ 1024) ⌝ }
     ensures { λ r. ⌜ Steps (now (program .entry)) nodes t p used (now (bytes .entry)) (now (area .entry)) r (now (bytes .exit)) (now (area .exit)) ⌝ }
 {
     let node = t.node;

@@ -50,7 +50,7 @@ fn call(f: u16, x: Name, t: Stand, w: &mut [u8]) -> Advanced
 
 // One step. LET and CALL, which every loop of a program is made of, need not be told from the other moves a second time.
 fn once(view: View, program: &[u8], nodes: usize, t: Stand, w: &mut [u8]) -> Advanced
-    requires { ⌜ (t .depth .frames ≤ maxFrames) × (areaSize ≤ length (now w)) ⌝ }
+    requires { ⌜ (t .depth .frames ≤ maxFrames) × (areaSize ≤ length (now w)) × (nodes ≤ 1024) ⌝ }
     ensures { λ y. ⌜ Advances view (now (program .entry)) nodes t y (now (w .entry)) (now (w .exit)) ⌝ }
 {
     let node = table::node(program, nodes, w, t.node);
@@ -88,7 +88,7 @@ pub struct Gone {
 
 // Steps as long as control just moves, at most `most` of them.
 pub fn far(view: View, program: &[u8], nodes: usize, start: Stand, most: u32, w: &mut [u8]) -> Gone
-    requires { ⌜ (1 ≤ most) × (start .depth .frames ≤ maxFrames) × (areaSize ≤ length (now w)) ⌝ }
+    requires { ⌜ (1 ≤ most) × (start .depth .frames ≤ maxFrames) × (areaSize ≤ length (now w)) × (nodes ≤ 1024) ⌝ }
     ensures { λ f. ⌜ GoesFar view (now (program .entry)) nodes start most f (now (w .entry)) (now (w .exit)) ⌝ }
 {
     let last = most - 1;

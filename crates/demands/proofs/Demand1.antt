@@ -22,6 +22,7 @@ use Rattle.joint.proofs.OneAnswer as Joint
 use Rattle.invariants.specs.Accepted.{IsSingleRun, IsJointRun}
 use Rattle.demands.specs.Demand1.{Untouched, Demand1}
 use Rattle.demands.proofs.Stops.{single-number, joint-number}
+use Rattle.demands.proofs.SiteStops.{book-stops, record-stops}
 
 -- no two answers say the same
 untold-check : CheckAnswer → Verdict
@@ -91,4 +92,6 @@ demand-1 =
       joint-refused = joint-refused;
       single-number = single-number;
       joint-number = joint-number;
+      book-stops = λ p L ts checks runs. book-stops p L ts;
+      record-stops = record-stops;
     }

@@ -1,7 +1,9 @@
 pub mod Sliced
 pub mod Quiet
 pub mod Brought
+pub mod RefusalLaws
 pub mod Stops
+pub mod SiteStops
 pub mod Demand1
 pub mod Fits
 pub mod Seen

@@ -5,15 +5,10 @@ use mathlib.Core.List.{List, [], _∷_}
 use mathlib.Core.Option.{Option}
 use native.Mathlib.Omega.{arith}
 use lib.IntN.{ℤ}
-use Rattle.parties.specs.declared.sets.PartySet.{PartySet}
 use Rattle.program.specs.Check.{nodeAt}
-use Rattle.values.specs.declared.value.Value.{Value}
-use Rattle.nodes.specs.declared.Node.{Node}
-use Rattle.nodes.specs.declared.Node.the-variants.{VAR, INT, OP, MUX, READ, WRITE, EMBED, SHARE, REVEAL, LET, CASE, PAR, CALL}
 use Rattle.refusals.specs.Numbers.{noRoom}
 use Rattle.records.specs.declared.events.Event.{Event}
 use Rattle.rules.specs.Rules.{rule}
-use Rattle.rules.specs.RuleLaws.{OfKind, rule-holds}
 use Rattle.rules.specs.Moves.{Control, Next, on, ends, full, move}
 use Rattle.rules.specs.Books.{Books, roomFor}
 use Rattle.rules.specs.Single.{Setting, Single, going, ended, stopped, allOf, noteAll, arrive, settleAll, readAll, perform, step, run, after}
@@ -27,29 +22,7 @@ use Rattle.rules.specs.declared.effects.Offer.the-variants.{Empty, Secret}
 use Rattle.rules.specs.declared.effects.Effect.{Effect}
 use Rattle.rules.specs.declared.effects.Effect.the-variants.{Refuse, Goes, Reads, Writes, Meets}
 use Rattle.demands.specs.Demand1.{StopNumber, SingleNumber, JointNumber}
-
--- what a rule refuses with
-abbrev Refuses : Effect → Type 0
-Refuses (Refuse refusal) = StopNumber refusal
-Refuses (Goes mv) = Unit {0}
-Refuses Reads = Unit {0}
-Refuses (Writes i) = Unit {0}
-Refuses (Meets mt o) = Unit {0}
-
-kind-refuses : (m : PartySet) (vs : List Value) (e : Node) → OfKind Whole m Refuses vs e
-kind-refuses m vs (VAR x) = tt
-kind-refuses m vs (INT i) = tt
-kind-refuses m vs (OP o x y) = λ s i j. tt
-kind-refuses m vs (MUX x y z) = λ s t u i j k f g h. tt
-kind-refuses m vs READ = λ one. tt
-kind-refuses m vs (WRITE x) = λ i h. tt
-kind-refuses m vs (EMBED x) = λ i h. tt
-kind-refuses m vs (SHARE a q x) = (λ i l f g. tt, tt)
-kind-refuses m vs (REVEAL q x) = (λ i h l f g. tt, tt)
-kind-refuses m vs (LET x e1 e2) = tt
-kind-refuses m vs (CASE x e1 e2) = λ t. tt
-kind-refuses m vs (PAR p e) = (λ inside. tt, tt)
-kind-refuses m vs (CALL f x) = tt
+use Rattle.demands.proofs.RefusalLaws.{Refuses, rule-refuses}
 
 -- ---- the single run
 
@@ -94,7 +67,7 @@ step-stops : (S : Setting) (s : Single) → Stops s → Stops (step S s)
 unfolding step
 step-stops S (going t c b) h =
     perform-stops S t c b (rule Whole (nodeAt (S .program) (c .node)) (c .mode) (c .names))
-    (rule-holds (c .mode) Refuses (omega arith, omega arith) (omega arith, omega arith) Whole (nodeAt (S .program) (c .node)) (c .names) (omega arith, omega arith) (λ vs f. kind-refuses (c .mode) vs (nodeAt (S .program) (c .node))))
+    (rule-refuses Whole (nodeAt (S .program) (c .node)) (c .mode) (c .names))
 step-stops S (ended t v b) h = tt
 step-stops S (stopped t refusal e b) h = h
 

@@ -47,7 +47,7 @@ fn run_turns(
     lengths: &mut [usize],
     work: &mut [u8],
 ) -> u32
-    requires { ⌜ (length (now turns) ≤ maxTurns) × AllBelow n (now turns) × (n ≤ maxParties) × (n * room ≤ length (now bytes)) × (n ≤ length (now lengths)) × (n * areaSize ≤ length (now work)) × (maxParties ≤ length (now at)) × (maxParties ≤ length (now end)) ⌝ }
+    requires { ⌜ (length (now turns) ≤ maxTurns) × AllBelow n (now turns) × (n ≤ maxParties) × (n * room ≤ length (now bytes)) × (n ≤ length (now lengths)) × (n * areaSize ≤ length (now work)) × (maxParties ≤ length (now at)) × (maxParties ≤ length (now end)) × (nodes ≤ 1024) ⌝ }
     ensures { λ k. ⌜ RunsTurns (now (program .entry)) nodes (now (turns .entry)) n room (now (inputs .entry)) (now (end .entry)) k (now (at .entry)) (now (bytes .entry)) (now (lengths .entry)) (now (work .entry)) (now (bytes .exit)) (now (lengths .exit)) (now (work .exit)) ⌝ }
 {
     let mut count: u32 = 0;

@@ -148,7 +148,7 @@ pub fn step(
     lengths: &mut [usize],
     work: &mut [u8],
 ) -> Stride
-    requires { ⌜ (1 ≤ most) × (n ≤ maxParties) × (n * room ≤ length (now bytes)) × (n ≤ length (now lengths)) × (t .depth .frames ≤ maxFrames) × (areaSize ≤ length (now work)) × (maxParties ≤ length (now at)) × (maxParties ≤ length (now end)) ⌝ }
+    requires { ⌜ (1 ≤ most) × (n ≤ maxParties) × (n * room ≤ length (now bytes)) × (n ≤ length (now lengths)) × (t .depth .frames ≤ maxFrames) × (areaSize ≤ length (now work)) × (maxParties ≤ length (now at)) × (maxParties ≤ length (now end)) × (nodes ≤ 1024) ⌝ }
     ensures { λ s. ⌜ Strides (now (program .entry)) nodes room n (now (inputs .entry)) (now (end .entry)) most t s (record { bytes = now (bytes .entry); lengths = now (lengths .entry); work = now (work .entry); at = now (at .entry) }) (record { bytes = now (bytes .exit); lengths = now (lengths .exit); work = now (work .exit); at = now (at .exit) }) ⌝ }
 {
     let gone = advance::far(View::Whole, program, nodes, t, most, work);

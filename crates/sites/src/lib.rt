@@ -69,7 +69,7 @@ pub fn turn(
     lengths: &mut [usize],
     work: &mut [u8],
 ) -> bool
-    requires { ⌜ (p < n) × (n ≤ maxParties) × (n * room ≤ length (now bytes)) × (n ≤ length (now lengths)) × (n * areaSize ≤ length (now work)) × (maxParties ≤ length (now at)) × (maxParties ≤ length (now end)) ⌝ }
+    requires { ⌜ (p < n) × (n ≤ maxParties) × (n * room ≤ length (now bytes)) × (n ≤ length (now lengths)) × (n * areaSize ≤ length (now work)) × (maxParties ≤ length (now at)) × (maxParties ≤ length (now end)) × (nodes ≤ 1024) ⌝ }
     ensures { λ r. ⌜ Turns (now (program .entry)) nodes p n room (now (inputs .entry)) (now (end .entry)) r (now (at .entry)) (now (bytes .entry)) (now (lengths .entry)) (now (work .entry)) (now (at .exit)) (now (bytes .exit)) (now (lengths .exit)) (now (work .exit)) ⌝ }
 {
     let i = p as usize;

@@ -19,11 +19,12 @@ pub fn prepare(program: &[u8], nodes: usize, w: &mut [u8])
 
 // The node numbered k; past the last one READ, so that nobody has to show that there is one.
 pub fn node(program: &[u8], nodes: usize, w: &[u8], k: u16) -> Node
+    requires { ⌜ (nodes ≤ 1024) × (areaSize ≤ length (now w)) ⌝ }
     ensures { λ r. ⌜ r ≡ nodeBy (now (program .entry)) nodes (now (w .entry)) k ⌝ }
 {
     let own = k as usize;
     if own < nodes {
-        nodes::node_at(program, places::place_of(w, own))
+        nodes::node_at(program, words::load2(w, 2 * own) as usize)
     } else {
         Node::READ
     }

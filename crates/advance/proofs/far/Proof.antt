@@ -27,7 +27,7 @@ loop-holds c = let a = c .before .before .args in
     (omega (arith, c .before .before .pre .0), c .before .before .pre .1, refl, no-moves (a .view) (a .program .now) (a .nodes) (a .start) (a .w .now))
 
 once-requires : tie.Need-once-requires Inv-loop μ-loop
-once-requires c κs = (c .before .loop .inv .1, omega (arith, c .before .before .before .before .pre .2, c .before .loop .inv .2))
+once-requires c κs = (c .before .loop .inv .1, omega (arith, c .before .before .before .before .pre .2, c .before .loop .inv .2), c .before .before .before .before .pre .3)
 
 follows-requires : tie.Need-follows-requires Inv-loop μ-loop
 follows-requires c κs = tt

@@ -74,7 +74,7 @@ part-step-end-2 c = part-load-seat-end (c .before .before .before .before .befor
 
 step-requires : tie.Need-step-requires
 step-requires c κs = let a = c .before .before .before .before .before .before .before .before .before .before .before .before .before .before .before .args in
-    let p = c .before .before .before .before .before .before .before .before .before .before .before .before .before .before .before .pre in (subst DeepSeat (sym (c .before .before .before .before .before .load-seat .ensures) ∙ c .before .before .before .t .given .1) (seat-deep (areaOf (a .p) (a .work .now))), omega (arith, row-length areaSize (a .p) (a .work .now) (omega (arith, rows (a .p) (a .n) areaSize (p .0), p .4))))
+    let p = c .before .before .before .before .before .before .before .before .before .before .before .before .before .before .before .pre in (subst DeepSeat (sym (c .before .before .before .before .before .load-seat .ensures) ∙ c .before .before .before .t .given .1) (seat-deep (areaOf (a .p) (a .work .now))), omega (arith, row-length areaSize (a .p) (a .work .now) (omega (arith, rows (a .p) (a .n) areaSize (p .0), p .4))), p .7)
 
 enum-known-next : tie.Need-enum-known-next
 enum-known-next c = c .match2 .keys1

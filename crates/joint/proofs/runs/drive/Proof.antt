@@ -36,7 +36,7 @@ slice-aggregate-run-turns-2 c = search needs
 
 run-turns-requires : tie.Need-run-turns-requires
 run-turns-requires c κs = let p = c .before .before .before .before .before .before .before .before .before .before .before .before .before .before .before .before .before .before .before .before .before .before .before .before .before .pre in
-    (few-turns _ _ (p .8), turns-below _ _ (p .8), p .0, p .3, omega (arith, p .4, c .before .before .before .before .before .before .before .before .before .before .before .before .clear-lengths .kept .1 .0), omega (arith, p .5, c .before .before .before .before .before .before .before .open-all .kept .1 .1 .1 .1 .0), search needs, search needs)
+    (few-turns _ _ (p .8), turns-below _ _ (p .8), p .0, p .3, omega (arith, p .4, c .before .before .before .before .before .before .before .before .before .before .before .before .clear-lengths .kept .1 .0), omega (arith, p .5, c .before .before .before .before .before .before .before .open-all .kept .1 .1 .1 .1 .0), search needs, search needs, p .2)
 
 all-finished-requires : tie.Need-all-finished-requires
 all-finished-requires c κs = let p = c .before .before .before .before .before .before .before .before .before .before .before .before .before .before .before .before .before .before .before .before .before .before .before .before .before .before .before .before .before .before .before .before .before .before .pre in

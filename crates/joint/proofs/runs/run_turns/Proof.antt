@@ -29,7 +29,7 @@ shared-slice-read-turn c = search needs
 turn-requires : tie.Need-turn-requires Inv-loop μ-loop
 turn-requires c κs = let p = c .before .before .before .before .before .before .before .before .before .before .before .before .before .before .pre in
     let v = c .before .before .before .before .before .before .loop .inv in
-    (p .1 (c .before .before .before .before .before .before .loop .j) (c .before .before .before .before .before .loop-test .taken), p .2, omega (arith, p .3, v .2), omega (arith, p .4, v .3), omega (arith, p .5, v .4), omega (arith, p .6, v .1), p .7)
+    (p .1 (c .before .before .before .before .before .before .loop .j) (c .before .before .before .before .before .loop-test .taken), p .2, omega (arith, p .3, v .2), omega (arith, p .4, v .3), omega (arith, p .5, v .4), omega (arith, p .6, v .1), p .7, p .8)
 
 once-requires : tie.Need-once-requires Inv-loop μ-loop
 once-requires c κs = search needs

@@ -34,7 +34,7 @@ sub-step c = omega (arith, c .loop-test .taken)
 step-requires : tie.Need-step-requires Inv-loop μ-loop
 step-requires c κs = let p = c .before .before .before .before .before .before .before .before .before .before .before .before .pre in
     let v = c .before .before .before .before .before .loop .inv in
-    (omega (arith, c .before .before .before .before .loop-test .taken), p .0, omega (arith, p .1, v .2), omega (arith, p .2, v .3), v .0 .deep, omega (arith, p .4, v .4), omega (arith, p .5, v .1), p .6)
+    (omega (arith, c .before .before .before .before .loop-test .taken), p .0, omega (arith, p .1, v .2), omega (arith, p .2, v .3), v .0 .deep, omega (arith, p .4, v .4), omega (arith, p .5, v .1), p .6, p .7)
 
 add-k : tie.Need-add-k Inv-loop μ-loop
 add-k c = omega (arith, c .before .before .before .before .before .before .before .before .before .step .ensures .0, c .before .before .before .before .before .before .before .before .before .before .before .before .before .before .loop-test .taken, c .before .before .before .before .before .before .before .before .before .before .before .before .before .before .before .before .before .before .before .before .before .before .fits .budget)
