@@ -5,7 +5,7 @@ use Prim.Native.Nat.{ℕ, zero, suc, _+_, _-_, _*_, _≤_, _<_}
 use native.Mathlib.Nat.{not-suc-le-zero}
 use native.Mathlib.Omega.{arith}
 use lib.ListN.{length, getD, set, take, drop, replicate}
-use lib.Seq.{sets, take-set-le, getD-append-add, getD-drop}
+use lib.Seq.{sets, take-set-le}
 use Rattle.words.specs.Words.{numberAt}
 use Rattle.words.proofs.WordLaws.{number-same}
 use Rattle.limits.specs.Limits.{maxNames}
@@ -32,9 +32,9 @@ names-get w d x h = cells-get maxNames x w (levelAt d) h
 pub names-same : (d : ℕ) (xs ys : List ℕ) → SameLevels xs ys (levelAt (suc d)) → namesAt xs d ≡ namesAt ys d
 names-same d xs ys e = cells-same maxNames xs (levelAt d) ys (levelAt d) (λ k h. e (levelAt d + k) (omega arith) (omega arith))
 
-pub names-fresh : (w : List ℕ) (d : ℕ) → ((i : ℕ) → tableSize ≤ i → getD w i 0 ≡ 0) → namesAt w d ≡ noneBound
+pub names-fresh : (w : List ℕ) (d : ℕ) → ((k : ℕ) → k < maxNames * width → getD w (levelAt d + k) 0 ≡ 0) → namesAt w d ≡ noneBound
 unfolding noneBound
-names-fresh w d z = cells-zero maxNames w (levelAt d) (λ k h. z (levelAt d + k) (omega arith))
+names-fresh w d z = cells-zero maxNames w (levelAt d) (λ k h. z k (omega arith))
 
 -- ---- frames
 pub frame-same : (d : ℕ) (xs ys : List ℕ) → SameLevels xs ys (levelAt (suc d)) → frameAt xs d ≡ frameAt ys d
@@ -69,21 +69,15 @@ unfolding controlOf
 control-same t xs ys e = rw (names-same (t .depth .frames) xs ys e, frames-same (t .depth .frames) xs ys (λ i h l. e i h (omega arith)))
 
 -- ---- where a run starts
-zeros : (m i : ℕ) → getD {A = ℕ} (replicate m 0) i 0 ≡ 0
+pub zeros : (m i : ℕ) → getD {A = ℕ} (replicate m 0) i 0 ≡ 0
 zeros zero i = refl
 zeros (suc m) zero = refl
 zeros (suc m) (suc i) = zeros m i
 
--- zeros of which the first k were written over
-pub zeros-behind : (k m : ℕ) (ys : List ℕ) → length ys ≡ k → (i : ℕ) → k ≤ i → getD (ys ++ drop k (replicate m 0)) i 0 ≡ 0
-zeros-behind k m ys l i h =
-    let e : i ≡ length ys + (i - k) = omega arith in
-    rw e (getD-append-add ys (drop k (replicate m 0)) (i - k) 0 ∙ getD-drop k (replicate m 0) (i - k) 0 ∙ zeros m (k + (i - k)))
-
-pub fresh : (node : ℕ) (mode : PartySet) (w : List ℕ) → ((i : ℕ) → tableSize ≤ i → getD w i 0 ≡ 0)
+pub fresh : (node : ℕ) (mode : PartySet) (w : List ℕ) → namesAt w 0 ≡ noneBound
     → controlOf (record { node = node; mode = mode; depth = record { frames = 0 } }) w ≡ record { node = node; mode = mode; names = noneBound; frames = [] }
 unfolding controlOf framesOf
-fresh node mode w z = rw (names-fresh w 0 z)
+fresh node mode w z = rw z
 
 -- ---- the table of places stays where the levels are stored to
 pub table-sets : (vs w : List ℕ) (p : ℕ) → tableSize ≤ p → take tableSize (sets w p vs) ≡ take tableSize w

@@ -18,13 +18,12 @@ use Rattle.rules.specs.Joint.{Site, Sites, running, isFinished, allFinished, bo
 use Rattle.rules.specs.Lent.{areaSize}
 use Rattle.rules.specs.Moves.{Control}
 use Rattle.rules.specs.Names.{noneBound}
-use Rattle.area.specs.Levels.{tableSize, framesOf, controlOf}
+use Rattle.area.specs.Levels.{namesAt, framesOf, controlOf}
 use Rattle.seats.specs.Seats.{seatAt, seated, siteOf, Saves}
 use Rattle.table.specs.Table.{Prepared}
 use Rattle.area.specs.declared.stand.Stand.{Stand}
 use Rattle.seats.specs.declared.Seat.{Seat}
 use Rattle.seats.specs.declared.Seat.the-variants.{Running, Finished, Stopped}
-use Rattle.area.proofs.LevelLaws.{names-fresh}
 use Rattle.area.proofs.MoveLaws.{part-back}
 use Rattle.table.proofs.TableLaws.{places-kept}
 use Rattle.meets.specs.Places.{areaOf}
@@ -50,10 +49,10 @@ module _ (n : ℕ) (ts : List ℕ) (i : ℕ) where
   turn-good h q l = rw (drop-cons ts i 0 h, lt-ltb (getD ts i 0) n q, lt-ltb i maxTurns l, add-one i)
 
 -- ---- a site's own area at the start
-fresh-control : (t : Stand) (w : List ℕ) → t .depth .frames ≡ 0 → ((i : ℕ) → tableSize ≤ i → getD w i 0 ≡ 0)
+fresh-control : (t : Stand) (w : List ℕ) → t .depth .frames ≡ 0 → namesAt w 0 ≡ noneBound
     → controlOf t w ≡ record { node = t .node; mode = t .mode; names = noneBound; frames = [] }
 unfolding controlOf framesOf
-fresh-control t w e z = rw (e, names-fresh w 0 z)
+fresh-control t w e z = rw (e, z)
 
 pub opens : (bs : List ℕ) (nodes : ℕ) (t : Stand) (w w′ : List ℕ) → nodes ≤ 1024 → Prepared bs nodes w → Saves (Running t) w w′ → OpensOne bs nodes t w′
 unfolding siteOf

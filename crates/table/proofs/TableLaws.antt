@@ -5,8 +5,9 @@ use Prim.Native.Nat.{ℕ, _+_, _*_, _≤_, _<_}
 use native.Mathlib.Omega.{arith}
 use borrow.Author.Tests.{lt-ltb, le-ltb}
 use native.Mathlib.Decide.{decLt}
-use lib.ListN.{length, getD, take, drop, replicate, List·getD-append, List·getD-eq-default}
-use lib.Seq.{getD-take}
+use lib.ListN.{length, getD, take, drop, replicate, length-drop, length-replicate, List·getD-append, List·getD-eq-default}
+use lib.Seq.{sets, length-sets, length-take-le, getD-take, getD-append-add, getD-drop}
+use Rattle.stretches.proofs.StretchLaws.{sets-at}
 use Rattle.words.specs.Words.{numberAt}
 use Rattle.words.proofs.WordLaws.{number-same}
 use Rattle.nodes.specs.Nodes.{nodeIn}
@@ -15,16 +16,45 @@ use Rattle.places.specs.Places.{placeOf, Tabled}
 use Rattle.places.specs.GoodLaws.{Good, good-program}
 use Rattle.nodes.specs.declared.Node.{Node}
 use Rattle.nodes.specs.declared.Node.the-variants.{READ}
-use Rattle.area.specs.Levels.{tableSize}
+use Rattle.limits.specs.Limits.{maxNames}
+use Rattle.cells.specs.Cells.{width}
+use Rattle.area.specs.Levels.{tableSize, levelAt}
 use Rattle.table.specs.Table.{PlacesIn, nodeBy, Prepared}
-use Rattle.area.proofs.LevelLaws.{zeros-behind}
+use Rattle.rules.specs.Lent.{areaSize}
+use Rattle.area.proofs.LevelLaws.{names-fresh, zeros}
+use Rattle.area.proofs.MoveLaws.{part-back}
 
-pub prepared : (bs : List ℕ) (nodes m : ℕ) (ys z : List ℕ) → nodes ≤ 1024 → z ≡ replicate m 0 → length ys ≡ tableSize → Tabled bs nodes (take tableSize z) ys
-    → Prepared bs nodes (ys ++ drop tableSize z)
-prepared bs nodes m ys z few e l t =
+-- the bytes w with others in place of the first level's cells
+abbrev pub patched : List ℕ → List ℕ → List ℕ
+patched w ys = take tableSize w ++ (ys ++ drop 144 (drop tableSize w))
+
+-- zeros in place of them
+module _ (w ys : List ℕ) (long : areaSize ≤ length w) (e : ys ≡ replicate (length (take 144 (drop tableSize w))) 0) where
+  part-length : length (take 144 (drop tableSize w)) ≡ 144
+  part-length = length-take-le 144 (drop tableSize w) (rw length-drop (omega arith))
+
+  zeros-length : length ys ≡ 144
+  zeros-length = ap length e ∙ length-replicate {A = ℕ} (length (take 144 (drop tableSize w))) 0 ∙ part-length
+
+  back : patched w ys ≡ sets w tableSize ys
+  back = let l = zeros-length in part-back tableSize 144 w ys l (omega arith)
+
+  pub cleared-length : length (patched w ys) ≡ length w
+  cleared-length = ap length back ∙ length-sets w tableSize ys
+
+  pub cleared : (k : ℕ) → k < maxNames * width → getD (patched w ys) (tableSize + k) 0 ≡ 0
+  cleared k h =
+      let l = zeros-length in
+      ap (λ (x : List ℕ). getD x (tableSize + k) 0) back ∙ sets-at ys w tableSize k (omega arith) (omega arith) ∙ ap (λ (x : List ℕ). getD x k 0) e ∙ zeros (length (take 144 (drop tableSize w))) k
+
+pub prepared : (bs : List ℕ) (nodes : ℕ) (ys z : List ℕ) → nodes ≤ 1024 → ((k : ℕ) → k < maxNames * width → getD z (tableSize + k) 0 ≡ 0) → length ys ≡ tableSize
+    → Tabled bs nodes (take tableSize z) ys → Prepared bs nodes (ys ++ drop tableSize z)
+prepared bs nodes ys z few e l t =
     record {
       places = λ k h. number-same 2 (ys ++ drop tableSize z) (2 * k) ys (2 * k) (λ i j. List·getD-append ys (drop tableSize z) 0 (2 * k + i) (omega arith)) ∙ t .places k h;
-      fresh = λ i h. ap (λ (x : List ℕ). getD (ys ++ drop tableSize x) i 0) e ∙ zeros-behind tableSize m ys l i h;
+      fresh = names-fresh (ys ++ drop tableSize z) 0 λ k h.
+          let at : levelAt 0 + k ≡ length ys + k = omega arith in
+          ap (λ (i : ℕ). getD (ys ++ drop tableSize z) i 0) at ∙ getD-append-add ys (drop tableSize z) k 0 ∙ getD-drop tableSize z k 0 ∙ e k h;
     }
 
 -- whoever keeps the bytes of the table keeps the places

@@ -4,13 +4,13 @@ use Prim.Native.Nat.{ℕ, _*_, _≤_, _<_}
 use mathlib.Core.Bool.{cond}
 use mathlib.Core.List.{List}
 use lib.Dec.{ltb}
-use lib.ListN.{getD}
 use Rattle.words.specs.Words.{numberAt}
 use Rattle.nodes.specs.Nodes.{nodeIn}
 use Rattle.places.specs.Places.{placeOf}
 use Rattle.nodes.specs.declared.Node.{Node}
 use Rattle.nodes.specs.declared.Node.the-variants.{READ}
-use Rattle.area.specs.Levels.{tableSize}
+use Rattle.rules.specs.Names.{noneBound}
+use Rattle.area.specs.Levels.{namesAt}
 
 -- the places of the first so many nodes of a program's bytes stand at the head of w
 abbrev pub PlacesIn : List ℕ → ℕ → List ℕ → Type 0
@@ -23,4 +23,4 @@ nodeBy bs nodes w k = cond (ltb k nodes) (nodeIn bs (numberAt 2 w (2 * k))) READ
 -- an area at the start of a run
 pub record Prepared (bs : List ℕ) (nodes : ℕ) (w : List ℕ) : Type 0 where
   pub places : PlacesIn bs nodes w
-  pub fresh : (i : ℕ) → tableSize ≤ i → getD w i 0 ≡ 0
+  pub fresh : namesAt w 0 ≡ noneBound

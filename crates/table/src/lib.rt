@@ -8,12 +8,12 @@ ghost use Rattle.table.specs.Table.{nodeBy, Prepared};
 use nodes::JointNode;
 use nodes::Node;
 
-// An area at the start of a run: the places of the nodes, and no name bound.
+// An area at the start of a run: the places of the nodes, and no name bound in the first level, from which the others are copied.
 pub fn prepare(program: &[u8], nodes: usize, w: &mut [u8])
     requires { ⌜ (nodes ≤ 1024) × (areaSize ≤ length (now w)) ⌝ }
     ensures { λ _. ⌜ Prepared (now (program .entry)) nodes (now (w .exit)) ⌝ }
 {
-    stretches::zero(w);
+    stretches::zero(&mut w[2048..2192]);
     places::index(program, nodes, &mut w[..2048]);
 }
 
