@@ -25,7 +25,6 @@ use Rattle.records.specs.declared.events.Appended.the-variants.{To, NoRoom}
 use Rattle.refusals.specs.Numbers.{noInput, noRoom, tooDeep}
 use Rattle.rules.specs.Books.{Book, used, handed, eventOf, eventFor, roomFor, add, note}
 use Rattle.rules.specs.Moves.{move}
-use Rattle.rules.specs.Moves as Moves
 use Rattle.rules.specs.Single.{Setting}
 use Rattle.rules.specs.Joint.{Site, over, finish, stop, land, settle, readOwn}
 use Rattle.rules.specs.declared.effects.Move.{Move}
@@ -50,10 +49,8 @@ use Rattle.seats.specs.declared.Seat.{Seat}
 use Rattle.seats.specs.declared.Seat.the-variants.{Running, Finished, Stopped}
 use Rattle.acts.specs.Acts as Acts
 use Rattle.acts.specs.Acts.{Takes, Lands, Settles}
-use Rattle.acts.specs.declared.Stepped.the-variants.{Landed, Asks}
-use Rattle.advance.specs.Advances.{Asked, Advances}
-use Rattle.advance.specs.declared.Advanced.{Advanced}
-use Rattle.advance.specs.declared.Advanced.the-variants as Advanced′
+use Rattle.advance.specs.Advances.{ruleAt, Advances}
+use Rattle.advance.specs.declared.Advanced.the-variants.{Moved}
 use Rattle.rules.specs.declared.effects.View.the-variants as View′
 use Rattle.site.specs.Own.{acted}
 
@@ -119,25 +116,13 @@ moves mv t u xs w w1 next u′ xs′ w′ g l =
     let s : Takes (land (t .node) (nextOf next w1)) u xs w1 u′ xs′ w′ = l .lands (g .deep) in
     rw (← g .gives) (record { took = s .took; table = s .table ∙ g .table })
 
--- ---- a step
-module _ (bs : List ℕ) (nodes : ℕ) (t : Stand) (P : Party) (u : ℕ) (xs w : List ℕ) (y : Advanced) (w1 : List ℕ) (advances : Advances (View′.Site P) bs nodes t y w w1) where
-  pub step-lands : (next : Next) (u′ : ℕ) (xs′ w′ : List ℕ) → y ≡ Advanced′.Moved next → Lands next (t .node) u xs w1 u′ xs′ w′ → Acts.Steps bs nodes t P u xs w (Landed u′) xs′ w′
-  step-lands next u′ xs′ w′ q l =
-      let m = advances .moved next q in
-      record {
-        landed = λ v e.
-            let same : u′ ≡ v = cc in
-            (m .0, m .1, subst (λ (x : ℕ). Takes (land (t .node) (move (m .0) (controlOf t w))) u xs w x xs′ w′) same (moves (m .0) t u xs w w1 next u′ xs′ w′ (m .2) l));
-        asks = λ f e. absurd (let z : _≡_ {A = ℕ} 0 1 = cc in omega arith);
-      }
-
-  pub step-asks : (effect : Effect) → y ≡ Advanced′.Asks effect → Acts.Steps bs nodes t P u xs w (Asks effect) xs w1
-  step-asks effect q =
-      let a = advances .asks effect q in
-      record {
-        landed = λ v e. absurd (let z : _≡_ {A = ℕ} 0 1 = cc in omega arith);
-        asks = λ f e. let same : effect ≡ f = cc in (sym same ∙ a .0, subst Asked same (a .1), refl, a .2);
-      }
+-- a step by which control just moved, and where it led
+pub step-lands : (bs : List ℕ) (nodes : ℕ) (t : Stand) (P : Party) (u : ℕ) (xs w w1 : List ℕ) (next : Next) (u′ : ℕ) (xs′ w′ : List ℕ)
+    → Advances (View′.Site P) bs nodes t (Moved next) w w1 → Lands next (t .node) u xs w1 u′ xs′ w′
+    → (mv : Move) × (Goes mv ≡ ruleAt (View′.Site P) bs nodes t w) × Takes (land (t .node) (move mv (controlOf t w))) u xs w u′ xs′ w′
+step-lands bs nodes t P u xs w w1 next u′ xs′ w′ a l =
+    let m = a .moved next refl in
+    (m .0, m .1, moves (m .0) t u xs w w1 next u′ xs′ w′ (m .2) l)
 
 -- ---- an event noted, and a move
 -- what an event and an act after it leave

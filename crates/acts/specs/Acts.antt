@@ -9,13 +9,10 @@ use Rattle.limits.specs.declared.Party.{Party}
 use Rattle.records.specs.Events.{written, heldBack}
 use Rattle.records.specs.declared.events.Event.{Event}
 use Rattle.rules.specs.Books.{Book, used}
-use Rattle.rules.specs.Moves.{move}
 use Rattle.rules.specs.Single.{Setting}
 use Rattle.rules.specs.Joint.{Site, land, settle, bookOf}
 use Rattle.rules.specs.declared.effects.Move.{Move}
 use Rattle.rules.specs.declared.effects.Effect.{Effect}
-use Rattle.rules.specs.declared.effects.Effect.the-variants.{Goes}
-use Rattle.rules.specs.declared.effects.View.the-variants.{Site as Site′}
 use Rattle.invariants.specs.Room.{Fits}
 use Rattle.inputs.specs.Inputs.{headOf}
 use Rattle.inputs.specs.declared.Taken.{Taken}
@@ -23,11 +20,8 @@ use Rattle.area.specs.Levels.{tableSize, controlOf, nextOf, DeepEnough}
 use Rattle.seats.specs.Seats.{siteOf}
 use Rattle.area.specs.declared.stand.Stand.{Stand}
 use Rattle.area.specs.declared.stand.Next.{Next}
-use Rattle.advance.specs.Advances.{ruleAt, Asked}
 use Rattle.site.specs.Own.{acted, Alone}
 use Rattle.site.specs.declared.own.Own.the-variants as Own
-use Rattle.acts.specs.declared.Stepped.{Stepped}
-use Rattle.acts.specs.declared.Stepped.the-variants.{Landed, Asks}
 
 -- from the book b the site came to s: its record grew by some bytes, and its area holds where it now is
 pub record Took (b : Book) (s : Site) (u : ℕ) (xs : List ℕ) (u′ : ℕ) (xs′ w′ : List ℕ) : Type 0 where
@@ -46,11 +40,6 @@ pub record Takes (f : Book → Site) (u : ℕ) (xs w : List ℕ) (u′ : ℕ) (x
 -- where a move has led the site
 pub record Lands (next : Next) (e u : ℕ) (xs w : List ℕ) (u′ : ℕ) (xs′ w′ : List ℕ) : Type 0 where
   pub lands : DeepEnough next → Takes (land e (nextOf next w)) u xs w u′ xs′ w′
-
--- the site moves by the rule of its node, or nothing was done yet
-pub record Steps (bs : List ℕ) (nodes : ℕ) (t : Stand) (P : Party) (u : ℕ) (xs w : List ℕ) (r : Stepped) (xs′ w′ : List ℕ) : Type 0 where
-  pub landed : (u′ : ℕ) → r ≡ Landed u′ → (mv : Move) × (Goes mv ≡ ruleAt (Site′ P) bs nodes t w) × Takes (land (t .node) (move mv (controlOf t w))) u xs w u′ xs′ w′
-  pub asks : (effect : Effect) → r ≡ Asks effect → (effect ≡ ruleAt (Site′ P) bs nodes t w) × Asked effect × (xs′ ≡ xs) × (w′ ≡ w)
 
 -- the site notes its part of an event and control moves, or it stops for want of room
 pub record Settles (ev : Event) (mv : Move) (t : Stand) (P : Party) (u : ℕ) (xs w : List ℕ) (u′ : ℕ) (xs′ w′ : List ℕ) : Type 0 where

@@ -1,5 +1,4 @@
 // What a site does, in its own area and its own record. Each function answers how many bytes of the record are then used.
-ghost use mathlib.Core.Path.{_≡_};
 ghost use Prim.Native.Nat.{_≤_};
 ghost use lib.ListN.{length};
 ghost use Rattle.limits.specs.Limits.{maxFrames};
@@ -7,11 +6,10 @@ ghost use Rattle.values.specs.Values.{slice};
 ghost use Rattle.rules.specs.Books.{handed, eventOf};
 ghost use Rattle.rules.specs.Moves.{move};
 ghost use Rattle.rules.specs.Joint.{finish, stop, land};
-ghost use Rattle.rules.specs.Lent.{areaSize};
+ghost use Rattle.area.specs.Rows.{rowSize};
 ghost use Rattle.area.specs.Levels.{controlOf};
 ghost use Rattle.advance.specs.Advances.{Asked};
-ghost use Rattle.acts.specs.Acts.{Takes, Lands, Steps, Settles, Acts};
-use advance::Advanced;
+ghost use Rattle.acts.specs.Acts.{Takes, Lands, Settles, Acts};
 use area::stand::Next;
 use area::stand::Stand;
 use inputs::Taken;
@@ -21,12 +19,11 @@ use records::events::Event;
 use rules::effects::Effect;
 use rules::effects::Meeting;
 use rules::effects::Move;
-use rules::effects::View;
 use seats::Seat;
 use values::value::Value;
 
 pub fn stop(refusal: u8, node: u16, used: usize, bytes: &mut [u8], area: &mut [u8]) -> usize
-    requires { ⌜ areaSize ≤ length (now area) ⌝ }
+    requires { ⌜ rowSize ≤ length (now area) ⌝ }
     ensures { λ u. ⌜ Takes (stop refusal node) used (now (bytes .entry)) (now (area .entry)) u (now (bytes .exit)) (now (area .exit)) ⌝ }
 {
     seats::save_seat(Seat::Stopped, area);
@@ -34,7 +31,7 @@ pub fn stop(refusal: u8, node: u16, used: usize, bytes: &mut [u8], area: &mut [u
 }
 
 fn finish(v: Value, used: usize, bytes: &mut [u8], area: &mut [u8]) -> usize
-    requires { ⌜ areaSize ≤ length (now area) ⌝ }
+    requires { ⌜ rowSize ≤ length (now area) ⌝ }
     ensures { λ u. ⌜ Takes (finish v) used (now (bytes .entry)) (now (area .entry)) u (now (bytes .exit)) (now (area .exit)) ⌝ }
 {
     seats::save_seat(Seat::Finished, area);
@@ -42,8 +39,8 @@ fn finish(v: Value, used: usize, bytes: &mut [u8], area: &mut [u8]) -> usize
 }
 
 // Where a move has led the site: on, to its end, or to no place for a frame more.
-fn land(next: Next, node: u16, used: usize, bytes: &mut [u8], area: &mut [u8]) -> usize
-    requires { ⌜ areaSize ≤ length (now area) ⌝ }
+pub fn land(next: Next, node: u16, used: usize, bytes: &mut [u8], area: &mut [u8]) -> usize
+    requires { ⌜ rowSize ≤ length (now area) ⌝ }
     ensures { λ u. ⌜ Lands next node used (now (bytes .entry)) (now (area .entry)) u (now (bytes .exit)) (now (area .exit)) ⌝ }
 {
     match next {
@@ -56,38 +53,8 @@ fn land(next: Next, node: u16, used: usize, bytes: &mut [u8], area: &mut [u8]) -
     }
 }
 
-// What a site's step came to.
-pub enum Stepped {
-    // how many bytes of the record are then used
-    Landed(usize),
-    // what its rule asks for besides a move
-    Asks(Effect),
-}
-
-// Site p, which stands at t, moves by the rule of its node, or is told what the rule asks for besides.
-pub fn step(
-    program: &[u8],
-    nodes: usize,
-    t: Stand,
-    p: Party,
-    used: usize,
-    bytes: &mut [u8],
-    area: &mut [u8],
-) -> Stepped
-    requires { ⌜ (t .depth .frames ≤ maxFrames) × (areaSize ≤ length (now area)) × (nodes ≤ 1024) ⌝ }
-    ensures { λ r. ⌜ Steps (now (program .entry)) nodes t p used (now (bytes .entry)) (now (area .entry)) r (now (bytes .exit)) (now (area .exit)) ⌝ }
-{
-    let node = t.node;
-    let gone = advance::far(View::Site(p), program, nodes, t, 1, area);
-    let came = gone.came;
-    match came {
-        Advanced::Moved(next) => Stepped::Landed(land(next, node, used, bytes, area)),
-        Advanced::Asks(effect) => Stepped::Asks(effect),
-    }
-}
-
 fn hand_back(v: Value, t: Stand, used: usize, bytes: &mut [u8], area: &mut [u8]) -> usize
-    requires { ⌜ (t .depth .frames ≤ maxFrames) × (areaSize ≤ length (now area)) ⌝ }
+    requires { ⌜ (t .depth .frames ≤ maxFrames) × (rowSize ≤ length (now area)) ⌝ }
     ensures { λ u. ⌜ Takes (land (t .node) (move (Move.Hand v) (controlOf t (now (area .entry))))) used (now (bytes .entry)) (now (area .entry)) u (now (bytes .exit)) (now (area .exit)) ⌝ }
 {
     let node = t.node;
@@ -105,7 +72,7 @@ fn settle(
     bytes: &mut [u8],
     area: &mut [u8],
 ) -> usize
-    requires { ⌜ (t .depth .frames ≤ maxFrames) × (areaSize ≤ length (now area)) ⌝ }
+    requires { ⌜ (t .depth .frames ≤ maxFrames) × (rowSize ≤ length (now area)) ⌝ }
     ensures { λ u. ⌜ Settles ev (Move.Hand v) t p used (now (bytes .entry)) (now (area .entry)) u (now (bytes .exit)) (now (area .exit)) ⌝ }
 {
     let node = t.node;
@@ -125,7 +92,7 @@ pub fn join(
     bytes: &mut [u8],
     area: &mut [u8],
 ) -> usize
-    requires { ⌜ (t .depth .frames ≤ maxFrames) × (areaSize ≤ length (now area)) ⌝ }
+    requires { ⌜ (t .depth .frames ≤ maxFrames) × (rowSize ≤ length (now area)) ⌝ }
     ensures { λ u. ⌜ Settles (eventOf mt i) (Move.Hand (slice (p .index) (handed mt i))) t p used (now (bytes .entry)) (now (area .entry)) u (now (bytes .exit)) (now (area .exit)) ⌝ }
 {
     let ev = judge::meetings::event_of(mt, i);
@@ -143,7 +110,7 @@ pub fn act(
     bytes: &mut [u8],
     area: &mut [u8],
 ) -> usize
-    requires { ⌜ (t .depth .frames ≤ maxFrames) × (areaSize ≤ length (now area)) × Asked effect ⌝ }
+    requires { ⌜ (t .depth .frames ≤ maxFrames) × (rowSize ≤ length (now area)) × Asked effect ⌝ }
     ensures { λ u. ⌜ Acts effect input t p used (now (bytes .entry)) (now (area .entry)) u (now (bytes .exit)) (now (area .exit)) ⌝ }
 {
     let m = t.mode;

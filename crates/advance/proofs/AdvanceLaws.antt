@@ -22,7 +22,6 @@ use Rattle.rules.specs.declared.effects.Move.the-variants.{Hand, Down, Call}
 use Rattle.rules.specs.declared.effects.Effect.{Effect}
 use Rattle.rules.specs.declared.effects.Effect.the-variants as Effect′
 use Rattle.rules.proofs.effects.Effect.{the-type}
-use Rattle.area.proofs.stand.Next.{the-type as next-type}
 use Rattle.area.specs.Levels.{framesOf, controlOf, Goes}
 use Rattle.area.specs.declared.stand.Stand.{Stand}
 use Rattle.area.specs.declared.stand.Next.{Next}
@@ -31,11 +30,9 @@ use Rattle.table.specs.Table.{nodeBy}
 use Rattle.lookup.specs.Lookup.{soughtOf}
 use Rattle.lookup.specs.declared.Sought.the-variants as Sought′
 use Rattle.lookup.proofs.LookupLaws.{found-is, missing-is}
-use Rattle.advance.specs.Advances.{ruleOf, Asked, Answers, Advances, Moves, onwardOf, GoesFar}
+use Rattle.advance.specs.Advances.{ruleOf, Asked, Answers, Advances, Moves}
 use Rattle.advance.specs.declared.Advanced.{Advanced}
 use Rattle.advance.specs.declared.Advanced.the-variants.{Moved, Asks}
-use Rattle.advance.specs.declared.Onward.the-variants as Onward′
-use Rattle.advance.specs.declared.Gone.{Gone}
 
 -- what is left once control does not just move
 pub asked-left : (effect : Effect) → OneOf (0 ∷ 2 ∷ 3 ∷ 4 ∷ []) (tagOf the-type effect) → Asked effect
@@ -85,33 +82,15 @@ unfolding move controlOf
 hands v t next w w′ g = g
 
 -- ---- a run of moves
-
--- a move that does not lead on
-pub follows-not : (next : Next) → OneOf (1 ∷ 2 ∷ []) (tagOf next-type next) → Onward′.Not ≡ onwardOf (Moved next)
-follows-not (Next′.On t) h = absurd (miss (1 ∷ 2 ∷ []) 0 tt h)
-follows-not (Next′.Ends v) h = refl
-follows-not Next′.Full h = refl
-
--- where another step may follow, a move led on
-onward-is : (y : Advanced) (t : Stand) → Onward′.To t ≡ onwardOf y → y ≡ Moved (Next′.On t)
-onward-is (Moved (Next′.On u)) t e = let same : t ≡ u = cc in ap (λ (x : Stand). Moved (Next′.On x)) (sym same)
-onward-is (Moved (Next′.Ends v)) t e = absurd (let z : _≡_ {A = ℕ} 0 1 = cc in omega arith)
-onward-is (Moved Next′.Full) t e = absurd (let z : _≡_ {A = ℕ} 0 1 = cc in omega arith)
-onward-is (Asks effect) t e = absurd (let z : _≡_ {A = ℕ} 0 1 = cc in omega arith)
-
 module _ (view : View) (bs : List ℕ) (nodes : ℕ) (t : Stand) (w : List ℕ) where
   pub no-moves : Moves view bs nodes 0 t w t w
   unfolding Moves
   no-moves = (refl, refl)
 
-  -- another step, where it led on
-  pub one-more : (k : ℕ) (s u : Stand) (x v : List ℕ) (y : Advanced) → Moves view bs nodes k t w s x → Advances view bs nodes s y x v → Onward′.To u ≡ onwardOf y
-      → (u .depth .frames ≤ maxFrames) × Moves view bs nodes (k + 1) t w u v
+  -- another one
+  pub one-more : (k : ℕ) (s u : Stand) (x v : List ℕ) → Moves view bs nodes k t w s x → Advances view bs nodes s (Moved (Next′.On u)) x v → Moves view bs nodes (k + 1) t w u v
   unfolding Moves
-  one-more k s u x v y h a e =
-      let led : Advances view bs nodes s (Moved (Next′.On u)) x v = subst (λ (z : Advanced). Advances view bs nodes s z x v) (onward-is y u e) a in
-      let next : k + 1 ≡ suc k = omega arith in
-      (led .moved (Next′.On u) refl .2 .deep, rw next (s, x, h, led))
+  one-more k s u x v h a = let next : k + 1 ≡ suc k = omega arith in rw next (s, x, h, a)
 
   -- what each move keeps, the moves keep
   pub moves-keep : (P : ℕ → Stand → List ℕ → Type 0) → P 0 t w → ((k : ℕ) (s u : Stand) (x v : List ℕ) → P k s x → Advances view bs nodes s (Moved (Next′.On u)) x v → P (k + 1) u v)
@@ -123,11 +102,3 @@ module _ (view : View) (bs : List ℕ) (nodes : ℕ) (t : Stand) (w : List ℕ) 
   -- no more frames are down than there are levels for
   pub moves-deep : (k : ℕ) (u : Stand) (v : List ℕ) → t .depth .frames ≤ maxFrames → Moves view bs nodes k t w u v → u .depth .frames ≤ maxFrames
   moves-deep k u v d = moves-keep (λ j s x. s .depth .frames ≤ maxFrames) d (λ j s u x v h a. a .moved (Next′.On u) refl .2 .deep) k u v
-
-  -- where only one step was asked for, it is from where control stood
-  pub far-once : (f : Gone) (w′ : List ℕ) → GoesFar view bs nodes t 1 f w w′ → Advances view bs nodes t (f .came) w w′
-  unfolding Moves
-  far-once f w′ (few, v, h, a) =
-      let none : f .moves ≡ 0 = omega arith in
-      let (same, bytes) = subst (λ (k : ℕ). Moves view bs nodes k t w (f .stand) v) none h in
-      rw (same, bytes) a

@@ -16,9 +16,7 @@ use Rattle.area.specs.declared.stand.Next.the-variants as Next′
 use Rattle.table.specs.Table.{nodeBy}
 use Rattle.advance.specs.declared.Advanced.{Advanced}
 use Rattle.advance.specs.declared.Advanced.the-variants.{Moved, Asks}
-use Rattle.advance.specs.declared.Onward.{Onward}
-use Rattle.advance.specs.declared.Onward.the-variants as Onward′
-use Rattle.advance.specs.declared.Gone.{Gone}
+use Rattle.advance.specs.declared.strides.Gone.{Gone}
 
 -- what the rule of a node asks for, where control stands at t over the bytes w
 abbrev pub ruleOf : View → Node → Stand → List ℕ → Effect
@@ -44,13 +42,6 @@ pub record Answers (asked : Effect) (t : Stand) (y : Advanced) (w w′ : List �
 -- one step
 abbrev pub Advances : View → List ℕ → ℕ → Stand → Advanced → (w w′ : List ℕ) → Type 0
 Advances view bs nodes t y w w′ = Answers (ruleAt view bs nodes t w) t y w w′
-
--- where a step leads that another one may follow
-abbrev pub onwardOf : Advanced → Onward
-onwardOf (Moved (Next′.On t)) = Onward′.To t
-onwardOf (Moved (Next′.Ends v)) = Onward′.Not
-onwardOf (Moved Next′.Full) = Onward′.Not
-onwardOf (Asks effect) = Onward′.Not
 
 -- so many moves, one after the other, from the stand t over w to u over v
 unfoldable pub Moves : View → List ℕ → ℕ → ℕ → (t : Stand) (w : List ℕ) (u : Stand) (v : List ℕ) → Type 0

@@ -1,13 +1,13 @@
 // Steps that need nothing but the area: a node is read and its rule asked, and where control just moves, it moves at once.
-// Both runs come here, so that the code of all of it has one caller; a run of moves does not leave the loop.
+pub mod strides; // strides.rt: such steps one after the other, by whoever's turn it is
+
 ghost use Prim.Native.Nat.{_≤_};
 ghost use lib.ListN.{length};
 ghost use Rattle.limits.specs.Limits.{maxFrames};
 ghost use Rattle.nodes.specs.declared.Node.the-variants.{CALL};
-ghost use Rattle.rules.specs.Lent.{areaSize};
+ghost use Rattle.area.specs.Rows.{rowSize};
 ghost use Rattle.rules.specs.declared.effects.View.{View};
-ghost use Rattle.advance.specs.Advances.{ruleOf, Answers, Advances, onwardOf, GoesFar};
-ghost use mathlib.Core.Path.{_≡_};
+ghost use Rattle.advance.specs.Advances.{ruleOf, Answers, Advances};
 use area::stand::Next;
 use area::stand::Stand;
 use limits::Name;
@@ -24,7 +24,7 @@ pub enum Advanced {
 
 // By the rule of any node.
 fn by_rule(view: View, node: Node, t: Stand, w: &mut [u8]) -> Advanced
-    requires { ⌜ (t .depth .frames ≤ maxFrames) × (areaSize ≤ length (now w)) ⌝ }
+    requires { ⌜ (t .depth .frames ≤ maxFrames) × (rowSize ≤ length (now w)) ⌝ }
     ensures { λ y. ⌜ Answers (ruleOf view node t (now (w .entry))) t y (now (w .entry)) (now (w .exit)) ⌝ }
 {
     let effect = lookup::effect(view, node, t, w);
@@ -36,7 +36,7 @@ fn by_rule(view: View, node: Node, t: Stand, w: &mut [u8]) -> Advanced
 
 // By the rule of CALL, whose one value goes straight where it is bound.
 fn call(f: u16, x: Name, t: Stand, w: &mut [u8]) -> Advanced
-    requires { ⌜ (t .depth .frames ≤ maxFrames) × (areaSize ≤ length (now w)) ⌝ }
+    requires { ⌜ (t .depth .frames ≤ maxFrames) × (rowSize ≤ length (now w)) ⌝ }
     ensures { λ y. ⌜ ((view : View) → Answers (ruleOf view (CALL f x) t (now (w .entry))) t y (now (w .entry)) (now (w .exit))) ⌝ }
 {
     let m = t.mode;
@@ -50,7 +50,7 @@ fn call(f: u16, x: Name, t: Stand, w: &mut [u8]) -> Advanced
 
 // One step. LET and CALL, which every loop of a program is made of, need not be told from the other moves a second time.
 fn once(view: View, program: &[u8], nodes: usize, t: Stand, w: &mut [u8]) -> Advanced
-    requires { ⌜ (t .depth .frames ≤ maxFrames) × (areaSize ≤ length (now w)) × (nodes ≤ 1024) ⌝ }
+    requires { ⌜ (t .depth .frames ≤ maxFrames) × (rowSize ≤ length (now w)) × (nodes ≤ 1024) ⌝ }
     ensures { λ y. ⌜ Advances view (now (program .entry)) nodes t y (now (w .entry)) (now (w .exit)) ⌝ }
 {
     let node = table::node(program, nodes, w, t.node);
@@ -58,59 +58,5 @@ fn once(view: View, program: &[u8], nodes: usize, t: Stand, w: &mut [u8]) -> Adv
         Node::LET(x, e1, e2) => Advanced::Moved(area::levels::put_down(x, e1, e2, t, w)),
         Node::CALL(f, x) => call(f, x, t, w),
         _ => by_rule(view, node, t, w),
-    }
-}
-
-// Where a step leads that another one may follow.
-enum Onward {
-    To(Stand),
-    Not,
-}
-
-fn follows(y: Advanced) -> Onward
-    ensures { λ r. ⌜ r ≡ onwardOf y ⌝ }
-{
-    let Advanced::Moved(next) = y else {
-        return Onward::Not;
-    };
-    let Next::On(t) = next else {
-        return Onward::Not;
-    };
-    Onward::To(t)
-}
-
-// Some moves, the stand that they led to, and what the step from there came to.
-pub struct Gone {
-    pub moves: u32,
-    pub stand: Stand,
-    pub came: Advanced,
-}
-
-// Steps as long as control just moves, at most `most` of them.
-pub fn far(view: View, program: &[u8], nodes: usize, start: Stand, most: u32, w: &mut [u8]) -> Gone
-    requires { ⌜ (1 ≤ most) × (start .depth .frames ≤ maxFrames) × (areaSize ≤ length (now w)) × (nodes ≤ 1024) ⌝ }
-    ensures { λ f. ⌜ GoesFar view (now (program .entry)) nodes start most f (now (w .entry)) (now (w .exit)) ⌝ }
-{
-    let last = most - 1;
-    let mut t = start;
-    let mut k: u32 = 0;
-    loop {
-        let came = once(view, program, nodes, t, w);
-        let Onward::To(next) = follows(came) else {
-            return Gone {
-                moves: k,
-                stand: t,
-                came,
-            };
-        };
-        if k == last {
-            return Gone {
-                moves: k,
-                stand: t,
-                came,
-            };
-        }
-        t = next;
-        k += 1;
     }
 }

@@ -1,3 +1,4 @@
 pub mod CellsLaws
 pub mod LevelLaws
 pub mod MoveLaws
+pub mod RowLaws

@@ -22,7 +22,7 @@ use Rattle.parties.specs.declared.sets.PartySet.{PartySet}
 use Rattle.cells.specs.Cells.{width, cellBytes, Ranged}
 use Rattle.values.specs.declared.value.Value.{Value}
 use Rattle.cells.specs.declared.Bound.the-variants.{To}
-use Rattle.rules.specs.Lent.{areaSize}
+use Rattle.area.specs.Rows.{rowSize}
 use Rattle.rules.specs.Moves.{on, handBack, move}
 use Rattle.rules.specs.Names.{bind, noneBound}
 use Rattle.rules.specs.declared.effects.Move.the-variants.{Down, Call}
@@ -46,7 +46,7 @@ module _ (x : Name) (v : Value) (d : ℕ) (w : List ℕ) where
       let l : length (namesAt w d) ≤ x .index = rw (names-length w d) h in
       record { names = sym (set-out (namesAt w d) (x .index) (To v) l); frames = refl; table = refl }
 
-  pub bound : (at : ℕ) (w′ : List ℕ) → d ≤ maxFrames → areaSize ≤ length w → x .index < maxNames → Ranged (To v) → at ≡ levelAt d
+  pub bound : (at : ℕ) (w′ : List ℕ) → d ≤ maxFrames → rowSize ≤ length w → x .index < maxNames → Ranged (To v) → at ≡ levelAt d
       → w′ ≡ sets w (at + x .index * width) (cellBytes (To v)) → Binds x v d w w′
   unfolding bind
   bound at w′ few room h r place e =
@@ -132,7 +132,7 @@ module _ (x : Name) (e : ℕ) (m : PartySet) where
       rw (e2, e1, mode, body) (sets-append (lowFirst 2 e) (setBytes m) (set w (at + 144) (x .index)) (suc (at + 144)))
 
 -- the present level, once it has been written to
-module _ (x : Name) (e : ℕ) (m : PartySet) (d : ℕ) (w : List ℕ) (few : d < maxFrames) (room : areaSize ≤ length w) where
+module _ (x : Name) (e : ℕ) (m : PartySet) (d : ℕ) (w : List ℕ) (few : d < maxFrames) (room : rowSize ≤ length w) where
   written : List ℕ
   written = sets w (levelAt d + 144) (behind x e m)
 
@@ -160,7 +160,7 @@ module _ (x : Name) (e : ℕ) (m : PartySet) (d : ℕ) (w : List ℕ) (few : d <
   written-frames = frames-same d written w (λ i h l. written-before i (omega arith))
 
 -- the cells of level d, copied to the next level
-module _ (d : ℕ) (w w′ : List ℕ) (few : d < maxFrames) (room : areaSize ≤ length w) (copy : w′ ≡ copied w (levelAt d) (levelAt d + levelSize) 144) where
+module _ (d : ℕ) (w w′ : List ℕ) (few : d < maxFrames) (room : rowSize ≤ length w) (copy : w′ ≡ copied w (levelAt d) (levelAt d + levelSize) 144) where
   raised-before : (i : ℕ) → i < levelAt d + levelSize → getD w′ i 0 ≡ getD w i 0
   unfolding copied
   raised-before i h = rw copy (sets-before (stretch (levelAt d) 144 w) w (levelAt d + levelSize) i h)
@@ -187,7 +187,7 @@ module _ (d : ℕ) (w w′ : List ℕ) (few : d < maxFrames) (room : areaSize �
   unfolding copied
   raised-table = rw copy (table-sets (stretch (levelAt d) 144 w) w (levelAt d + levelSize) (omega arith))
 
-module _ (x : Name) (e1 e2 : ℕ) (t : Stand) (up : Depth) (at : ℕ) (w w1 w2 w′ : List ℕ) (room : areaSize ≤ length w) (body-fits : e2 < 2 ^ 16) (mode-fits : t .mode .bits < 2 ^ 16)
+module _ (x : Name) (e1 e2 : ℕ) (t : Stand) (up : Depth) (at : ℕ) (w w1 w2 w′ : List ℕ) (room : rowSize ≤ length w) (body-fits : e2 < 2 ^ 16) (mode-fits : t .mode .bits < 2 ^ 16)
     (place : at ≡ levelAt (t .depth .frames)) (stored : w1 ≡ sets (set w (at + 144) (x .index)) (at + 145) (lowFirst 2 e2)) (moded : w2 ≡ sets w1 (at + 147) (setBytes (t .mode)))
     (copy : w′ ≡ copied w2 at (at + levelSize) 144) (deeper : deeperThan (t .depth) ≡ Is up) where
   pub put-down : Goes (On (record { node = e1; mode = t .mode; depth = up })) (move (Down x e1 e2) (controlOf t w)) w w′
@@ -197,7 +197,7 @@ module _ (x : Name) (e1 e2 : ℕ) (t : Stand) (up : Depth) (at : ℕ) (w w1 w2 w
       let few : d < maxFrames = deeper-made (t .depth) up deeper .0 in
       let deep : up ≡ record { frames = d + 1 } = deeper-made (t .depth) up deeper .1 in
       let v : List ℕ = written x e2 (t .mode) d w few room in
-      let big : areaSize ≤ length v = rw (length-sets w (levelAt d + 144) (behind x e2 (t .mode))) room in
+      let big : rowSize ≤ length v = rw (length-sets w (levelAt d + 144) (behind x e2 (t .mode))) room in
       let v-is : w2 ≡ v = rw place at (behind-written x e2 (t .mode) at w w1 w2 stored moded) in
       let raised : w′ ≡ copied v (levelAt d) (levelAt d + levelSize) 144 = rw (v-is, place) at copy in
       let names : namesAt w′ (d + 1) ≡ namesAt w d = raised-names d v w′ few big raised ∙ written-names x e2 (t .mode) d w few room in
@@ -217,7 +217,7 @@ part-back a k w ys e h =
     let l : a + length ys ≤ length w = omega arith in
     rw (sets-eq ys w a l, drop-drop k a w, ← e, append-assoc)
 
-module _ (f : ℕ) (v : Value) (t : Stand) (at k : ℕ) (w ys w′ : List ℕ) (few : t .depth .frames ≤ maxFrames) (room : areaSize ≤ length w) where
+module _ (f : ℕ) (v : Value) (t : Stand) (at k : ℕ) (w ys w′ : List ℕ) (few : t .depth .frames ≤ maxFrames) (room : rowSize ≤ length w) where
   pub called : at ≡ levelAt (t .depth .frames) → k ≡ 144 → ys ≡ replicate (length (take k (drop at w))) 0
       → Binds (record { index = 0 }) v (t .depth .frames) (take at w ++ (ys ++ drop k (drop at w))) w′
       → Goes (On (record { node = f; mode = t .mode; depth = t .depth })) (move (Call f v) (controlOf t w)) w w′

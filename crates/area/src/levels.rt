@@ -4,7 +4,7 @@ ghost use Prim.Native.Nat.{_≤_};
 ghost use lib.ListN.{length};
 ghost use Rattle.limits.specs.Limits.{maxFrames};
 ghost use Rattle.rules.specs.Moves.{handBack, move};
-ghost use Rattle.rules.specs.Lent.{areaSize};
+ghost use Rattle.area.specs.Rows.{rowSize};
 ghost use Rattle.area.specs.Levels.{levelAt, framesOf, controlOf, Goes};
 ghost use Rattle.area.specs.Binding.{Binds};
 use crate::stand::Next;
@@ -41,7 +41,7 @@ pub fn level_at(d: Depth) -> usize
 
 // The name x of a level is bound to v. A name out of range binds nothing.
 fn bind(x: Name, v: Value, d: Depth, w: &mut [u8])
-    requires { ⌜ (d .frames ≤ maxFrames) × (areaSize ≤ length (now w)) ⌝ }
+    requires { ⌜ (d .frames ≤ maxFrames) × (rowSize ≤ length (now w)) ⌝ }
     ensures { λ _. ⌜ Binds x v (d .frames) (now (w .entry)) (now (w .exit)) ⌝ }
 {
     if x.index >= Name::MAX {
@@ -54,7 +54,7 @@ fn bind(x: Name, v: Value, d: Depth, w: &mut [u8])
 
 // A value is handed back: the top frame is removed, its mode and bindings return with its name bound to v, and its body is next.
 pub fn hand_back(v: Value, depth: Depth, w: &mut [u8]) -> Next
-    requires { ⌜ (depth .frames ≤ maxFrames) × (areaSize ≤ length (now w)) ⌝ }
+    requires { ⌜ (depth .frames ≤ maxFrames) × (rowSize ≤ length (now w)) ⌝ }
     ensures { λ y. ⌜ Goes y (handBack v (framesOf (now (w .entry)) (depth .frames))) (now (w .entry)) (now (w .exit)) ⌝ }
 {
     if depth.frames == 0 {
@@ -79,7 +79,7 @@ pub fn hand_back(v: Value, depth: Depth, w: &mut [u8]) -> Next
 
 // A frame is put down: the present level stays below with the name that waits, the node that follows and the mode; its copy is the next level.
 pub fn put_down(x: Name, e1: u16, e2: u16, t: Stand, w: &mut [u8]) -> Next
-    requires { ⌜ (t .depth .frames ≤ maxFrames) × (areaSize ≤ length (now w)) ⌝ }
+    requires { ⌜ (t .depth .frames ≤ maxFrames) × (rowSize ≤ length (now w)) ⌝ }
     ensures { λ y. ⌜ Goes y (move (Move.Down x e1 e2) (controlOf t (now (w .entry)))) (now (w .entry)) (now (w .exit)) ⌝ }
 {
     let depth = t.depth;
@@ -101,7 +101,7 @@ pub fn put_down(x: Name, e1: u16, e2: u16, t: Stand, w: &mut [u8]) -> Next
 
 // The body of a function: of its bindings only name 0 is there, bound to v.
 pub fn call(f: u16, v: Value, t: Stand, w: &mut [u8]) -> Next
-    requires { ⌜ (t .depth .frames ≤ maxFrames) × (areaSize ≤ length (now w)) ⌝ }
+    requires { ⌜ (t .depth .frames ≤ maxFrames) × (rowSize ≤ length (now w)) ⌝ }
     ensures { λ y. ⌜ Goes y (move (Move.Call f v) (controlOf t (now (w .entry)))) (now (w .entry)) (now (w .exit)) ⌝ }
 {
     let depth = t.depth;
@@ -119,7 +119,7 @@ pub fn call(f: u16, v: Value, t: Stand, w: &mut [u8]) -> Next
 
 // What a rule asks of control.
 pub fn go(mv: Move, t: Stand, w: &mut [u8]) -> Next
-    requires { ⌜ (t .depth .frames ≤ maxFrames) × (areaSize ≤ length (now w)) ⌝ }
+    requires { ⌜ (t .depth .frames ≤ maxFrames) × (rowSize ≤ length (now w)) ⌝ }
     ensures { λ y. ⌜ Goes y (move mv (controlOf t (now (w .entry)))) (now (w .entry)) (now (w .exit)) ⌝ }
 {
     let depth = t.depth;

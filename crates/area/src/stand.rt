@@ -4,8 +4,11 @@ use limits::Depth;
 use parties::sets::PartySet;
 use values::value::Value;
 
-// The bytes of one party's area.
+// What a party's area has to have, by document 01.
 pub const AREA: usize = 16384;
+
+// What of it is used: areas that lie this far apart share the lines of a cache more evenly.
+pub const ROW: usize = 12608;
 
 pub struct Stand {
     pub node: u16,

@@ -4,7 +4,7 @@ ghost use Prim.Native.Nat.{_≤_};
 ghost use lib.ListN.{length};
 ghost use Rattle.limits.specs.Limits.{maxFrames};
 ghost use Rattle.rules.specs.Joint.{agrees};
-ghost use Rattle.rules.specs.Lent.{areaSize};
+ghost use Rattle.area.specs.Rows.{rowSize};
 ghost use Rattle.attends.specs.Attends.{told, AttendsFrom, IsAt};
 use area::stand::Stand;
 use limits::Party;
@@ -30,7 +30,7 @@ fn attends_from(
     used: usize,
     area: &[u8],
 ) -> Attendance
-    requires { ⌜ (t .depth .frames ≤ maxFrames) × (areaSize ≤ length (now area)) ⌝ }
+    requires { ⌜ (t .depth .frames ≤ maxFrames) × (rowSize ≤ length (now area)) ⌝ }
     ensures { λ r. ⌜ AttendsFrom (now (program .entry)) nodes t e m p room used r (now (area .entry)) ⌝ }
 {
     let node = t.node;
@@ -58,7 +58,7 @@ pub fn attendance_of(
     used: usize,
     area: &[u8],
 ) -> Attendance
-    requires { ⌜ areaSize ≤ length (now area) ⌝ }
+    requires { ⌜ rowSize ≤ length (now area) ⌝ }
     ensures { λ r. ⌜ IsAt (now (program .entry)) nodes e m p room used r (now (area .entry)) ⌝ }
 {
     match seats::load_seat(area) {

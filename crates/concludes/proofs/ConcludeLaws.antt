@@ -21,7 +21,7 @@ use Rattle.values.specs.Values.{slice}
 use Rattle.records.specs.Events.{written, heldBack}
 use Rattle.refusals.specs.Numbers.{disagreement}
 use Rattle.rules.specs.Books.{Book, used, handed, eventOf}
-use Rattle.rules.specs.Lent.{areaSize}
+use Rattle.area.specs.Rows.{rowSize, row, areaOf, back}
 use Rattle.rules.specs.Single.{Setting}
 use Rattle.rules.specs.Joint.{Site, Sites, running, stop, parts, putAll, bookOf}
 use Rattle.rules.specs.declared.effects.Move.the-variants.{Hand}
@@ -33,11 +33,11 @@ use Rattle.area.specs.declared.stand.Stand.{Stand}
 use Rattle.seats.specs.declared.Seat.{Seat}
 use Rattle.seats.specs.declared.Seat.the-variants.{Running, Finished, Stopped}
 use Rattle.acts.specs.Acts.{Took, Takes, Settles}
-use Rattle.meets.specs.Places.{row, areaOf, settingOf, Given, Stands}
+use Rattle.meets.specs.Places.{settingOf, Given, Stands}
 use Rattle.concludes.specs.Concludes.{concluding, TakesPart, ConcludesOne, ConcludesAll}
 use Rattle.concludes.specs.declared.Outcome.{Outcome}
 use Rattle.concludes.specs.declared.Outcome.the-variants.{Joins, Parts}
-use Rattle.concludes.proofs.RowLaws.{back, row-length}
+use Rattle.area.proofs.RowLaws.{row-length}
 use Rattle.concludes.proofs.StandLaws.{NotRunning, stands-same, stands-length, stands-long, stands-changed}
 
 -- ---- a member's part, on its own record and area
@@ -76,9 +76,9 @@ module _ (outcome : Outcome) (P room : ℕ) (bytes lengths work : List ℕ) (sea
             ]);
       }
 
-  module _ (t : Stand) (runs : seat ≡ Running t) (u′ : ℕ) (ys ws : List ℕ) (area : length ws ≡ areaSize) (long : P * areaSize + areaSize ≤ length work)
+  module _ (t : Stand) (runs : seat ≡ Running t) (u′ : ℕ) (ys ws : List ℕ) (area : length ws ≡ rowSize) (long : P * rowSize + rowSize ≤ length work)
       (takes : TakesPart outcome t (record { index = P }) (getD lengths P 0) (row room P bytes) (areaOf P work) u′ ys ws) where
-    pub member-runs : ConcludesOne outcome P room bytes lengths work (back room P bytes ys) (set lengths P u′) (back areaSize P work ws)
+    pub member-runs : ConcludesOne outcome P room bytes lengths work (back room P bytes ys) (set lengths P u′) (back rowSize P work ws)
     unfolding siteOf
     member-runs =
         record {

@@ -9,7 +9,7 @@ use types.Run.{OneOf}
 use lib.ListN.{length, getD, set, take, length-append}
 use Rattle.records.specs.Events.{written}
 use Rattle.rules.specs.Books.{used}
-use Rattle.rules.specs.Lent.{areaSize}
+use Rattle.area.specs.Rows.{rowSize, row, areaOf, back}
 use Rattle.rules.specs.Joint.{Sites, bookOf}
 use Rattle.invariants.specs.Room.{Fits}
 use Rattle.invariants.proofs.RoomLaws.{book-fits}
@@ -23,8 +23,9 @@ use Rattle.seats.specs.declared.Seat.{Seat}
 use Rattle.seats.proofs.Seat.{the-type}
 use Rattle.table.proofs.TableLaws.{places-kept}
 use Rattle.acts.specs.Acts.{Took}
-use Rattle.meets.specs.Places.{row, areaOf, Sits, Given, Stands}
-use Rattle.concludes.proofs.RowLaws.{back, row-length, row-own, row-other}
+use Rattle.meets.specs.Places.{Sits, Given, Stands}
+use Rattle.area.proofs.RowLaws.{row-length}
+use Rattle.concludes.proofs.RowLaws.{row-own, row-other}
 
 -- its site runs no more
 abbrev pub NotRunning : Seat → Type 0
@@ -53,7 +54,7 @@ module _ {bs : List ℕ} {nodes room n : ℕ} (G : Given bs nodes room n) (J J�
       omega (arith, rows P n room h, l, G .long)
 
   -- ---- site P acted on its own rows
-  module _ (P : ℕ) (inside : P < n) (others : (Q : ℕ) → (Q ≡ P → ⊥) → J′ Q ≡ J Q) (u′ : ℕ) (ys ws : List ℕ) (long : P * areaSize + areaSize ≤ length work) (area : length ws ≡ areaSize)
+  module _ (P : ℕ) (inside : P < n) (others : (Q : ℕ) → (Q ≡ P → ⊥) → J′ Q ≡ J Q) (u′ : ℕ) (ys ws : List ℕ) (long : P * rowSize + rowSize ≤ length work) (area : length ws ≡ rowSize)
       (took : Took (bookOf (J P)) (J′ P) (getD lengths P 0) (row room P bytes) u′ ys ws) (table : take tableSize ws ≡ take tableSize (areaOf P work)) where
     room-is : length (row room P bytes) ≡ room
     room-is = row-length room P bytes (stands-long P inside)
@@ -76,13 +77,13 @@ module _ {bs : List ℕ} {nodes room n : ℕ} (G : Given bs nodes room n) (J J�
     writes =
         wrote room P bytes lengths ys (stands-long P inside) (took .more) (took .more) u′ refl (took .bytes) (omega (arith, within, stands-length P inside)) (took .count)
 
-    area-own : areaOf P (back areaSize P work ws) ≡ ws
-    area-own = row-own areaSize P work ws area long
+    area-own : areaOf P (back rowSize P work ws) ≡ ws
+    area-own = row-own rowSize P work ws area long
 
-    area-other : (Q : ℕ) → (Q ≡ P → ⊥) → areaOf Q (back areaSize P work ws) ≡ areaOf Q work
-    area-other Q d = row-other areaSize P work ws area long Q d
+    area-other : (Q : ℕ) → (Q ≡ P → ⊥) → areaOf Q (back rowSize P work ws) ≡ areaOf Q work
+    area-other Q d = row-other rowSize P work ws area long Q d
 
-    pub stands-changed : Stands G J′ (back room P bytes ys) (set lengths P u′) (back areaSize P work ws)
+    pub stands-changed : Stands G J′ (back room P bytes ys) (set lengths P u′) (back rowSize P work ws)
     stands-changed =
         record {
           holds = holds-more room n (λ P. bookOf (J P)) (λ P. bookOf (J′ P)) (G .bytes₀) (G .lengths₀) bytes lengths (st .holds) P (took .more) (back room P bytes ys) (set lengths P u′)

@@ -2,9 +2,9 @@
 ghost use Prim.Native.Nat.{_*_, _+_, _≤_, _<_};
 ghost use lib.ListN.{length};
 ghost use Rattle.limits.specs.Limits.{maxParties, maxFrames};
-ghost use Rattle.rules.specs.Lent.{areaSize};
+ghost use Rattle.area.specs.Rows.{rowSize};
 ghost use Rattle.concludes.specs.Concludes.{TakesPart, ConcludesOne, ConcludesAll};
-use area::stand::AREA;
+use area::stand::ROW;
 use area::stand::Stand;
 use limits::Party;
 use parties::sets::PartySet;
@@ -27,7 +27,7 @@ fn take_part(
     bytes: &mut [u8],
     area: &mut [u8],
 ) -> usize
-    requires { ⌜ (t .depth .frames ≤ maxFrames) × (areaSize ≤ length (now area)) ⌝ }
+    requires { ⌜ (t .depth .frames ≤ maxFrames) × (rowSize ≤ length (now area)) ⌝ }
     ensures { λ u. ⌜ TakesPart outcome t p used (now (bytes .entry)) (now (area .entry)) u (now (bytes .exit)) (now (area .exit)) ⌝ }
 {
     let node = t.node;
@@ -46,13 +46,13 @@ fn conclude_one(
     lengths: &mut [usize],
     work: &mut [u8],
 )
-    requires { ⌜ (p * room + room ≤ length (now bytes)) × (p < length (now lengths)) × (p * areaSize + areaSize ≤ length (now work)) ⌝ }
+    requires { ⌜ (p * room + room ≤ length (now bytes)) × (p < length (now lengths)) × (p * rowSize + rowSize ≤ length (now work)) ⌝ }
     ensures { λ _. ⌜ ConcludesOne outcome p room (now (bytes .entry)) (now (lengths .entry)) (now (work .entry)) (now (bytes .exit)) (now (lengths .exit)) (now (work .exit)) ⌝ }
 {
     let i = p as usize;
     let party = Party { index: p };
-    let from = i * AREA;
-    let to = from + AREA;
+    let from = i * ROW;
+    let to = from + ROW;
     let Seat::Running(t) = seats::load_seat(&work[from..to]) else {
         return;
     };
@@ -79,7 +79,7 @@ pub fn conclude(
     lengths: &mut [usize],
     work: &mut [u8],
 )
-    requires { ⌜ (n ≤ maxParties) × (n * room ≤ length (now bytes)) × (n ≤ length (now lengths)) × (n * areaSize ≤ length (now work)) ⌝ }
+    requires { ⌜ (n ≤ maxParties) × (n * room ≤ length (now bytes)) × (n ≤ length (now lengths)) × (n * rowSize ≤ length (now work)) ⌝ }
     ensures { λ _. ⌜ ConcludesAll outcome m n room (now (bytes .entry)) (now (lengths .entry)) (now (work .entry)) (now (bytes .exit)) (now (lengths .exit)) (now (work .exit)) ⌝ }
 {
     let mut p = m.next(0);

@@ -15,7 +15,7 @@ use Rattle.limits.specs.Limits.{maxFrames}
 use Rattle.rules.specs.Books.{Book}
 use Rattle.rules.specs.Calls.{maxTurns, badTurnFrom}
 use Rattle.rules.specs.Joint.{Site, Sites, running, isFinished, allFinished, bookOf}
-use Rattle.rules.specs.Lent.{areaSize}
+use Rattle.area.specs.Rows.{rowSize, areaOf, back}
 use Rattle.rules.specs.Moves.{Control}
 use Rattle.rules.specs.Names.{noneBound}
 use Rattle.area.specs.Levels.{namesAt, framesOf, controlOf}
@@ -26,8 +26,8 @@ use Rattle.seats.specs.declared.Seat.{Seat}
 use Rattle.seats.specs.declared.Seat.the-variants.{Running, Finished, Stopped}
 use Rattle.area.proofs.MoveLaws.{part-back}
 use Rattle.table.proofs.TableLaws.{places-kept}
-use Rattle.meets.specs.Places.{areaOf}
-use Rattle.concludes.proofs.RowLaws.{back, row-length, row-own, row-other}
+use Rattle.area.proofs.RowLaws.{row-length}
+use Rattle.concludes.proofs.RowLaws.{row-own, row-other}
 use Rattle.ends.specs.Ends.{finishedSeat, finishedAt, AllFirst, OpensOne, OpensAll, Finishes}
 
 -- ---- the turn list from an index on
@@ -78,20 +78,20 @@ module _ (w : List ℕ) where
   first-all k n w′ h a = record { each = λ P l. a .each P (omega arith) }
 
   -- the first is copied to the place of the next
-  module _ (k : ℕ) (w′ : List ℕ) (first : 0 < k) (long : k * areaSize + areaSize ≤ length w′) where
-    copied-back : copied w′ 0 (k * areaSize) areaSize ≡ back areaSize k w′ (areaOf 0 w′)
+  module _ (k : ℕ) (w′ : List ℕ) (first : 0 < k) (long : k * rowSize + rowSize ≤ length w′) where
+    copied-back : copied w′ 0 (k * rowSize) rowSize ≡ back rowSize k w′ (areaOf 0 w′)
     unfolding copied
-    copied-back = sym (part-back (k * areaSize) (k * areaSize + areaSize - k * areaSize) w′ (areaOf 0 w′) (row-length areaSize 0 w′ (omega arith) ∙ omega arith) (omega arith))
+    copied-back = sym (part-back (k * rowSize) (k * rowSize + rowSize - k * rowSize) w′ (areaOf 0 w′) (row-length rowSize 0 w′ (omega arith) ∙ omega arith) (omega arith))
 
-    pub first-more : AllFirst k w w′ → AllFirst (k + 1) w (copied w′ 0 (k * areaSize) areaSize)
+    pub first-more : AllFirst k w w′ → AllFirst (k + 1) w (copied w′ 0 (k * rowSize) rowSize)
     first-more a =
-        let one : length (areaOf 0 w′) ≡ areaSize = row-length areaSize 0 w′ (omega arith) in
+        let one : length (areaOf 0 w′) ≡ rowSize = row-length rowSize 0 w′ (omega arith) in
         record {
           each = λ P h.
               rw copied-back
               (elim (ℕ-discrete P k) [
-                | yes e ↦ rw (e, row-own areaSize k w′ (areaOf 0 w′) one long) (a .each 0 first)
-                | no d ↦ rw (row-other areaSize k w′ (areaOf 0 w′) one long P d) (a .each P (omega arith))
+                | yes e ↦ rw (e, row-own rowSize k w′ (areaOf 0 w′) one long) (a .each 0 first)
+                | no d ↦ rw (row-other rowSize k w′ (areaOf 0 w′) one long P d) (a .each P (omega arith))
               ]);
         }
 
@@ -100,8 +100,8 @@ module _ (bs : List ℕ) (nodes : ℕ) (t : Stand) where
   opens-none n w e = record { each = λ P h. absurd (omega arith) }
 
   -- the first was opened in its place, and the others are alike
-  pub opens-all : (n : ℕ) (w ws w′ : List ℕ) → length ws ≡ areaSize → areaSize ≤ length w → OpensOne bs nodes t ws → AllFirst n (back areaSize 0 w ws) w′ → OpensAll bs nodes t n w′
-  opens-all n w ws w′ len long one a = record { each = λ P h. rw (a .each P h, row-own areaSize 0 w ws len long) one }
+  pub opens-all : (n : ℕ) (w ws w′ : List ℕ) → length ws ≡ rowSize → rowSize ≤ length w → OpensOne bs nodes t ws → AllFirst n (back rowSize 0 w ws) w′ → OpensAll bs nodes t n w′
+  opens-all n w ws w′ len long one a = record { each = λ P h. rw (a .each P h, row-own rowSize 0 w ws len long) one }
 
 -- ---- whether all have finished
 seat-finished : (s : Seat) (w : List ℕ) (b : Book) → isFinished (seated s w b) ≡ finishedSeat s

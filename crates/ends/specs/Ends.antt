@@ -12,7 +12,7 @@ use Rattle.seats.specs.Seats.{seatAt, siteOf}
 use Rattle.area.specs.declared.stand.Stand.{Stand}
 use Rattle.seats.specs.declared.Seat.{Seat}
 use Rattle.seats.specs.declared.Seat.the-variants.{Running, Finished, Stopped}
-use Rattle.meets.specs.Places.{areaOf}
+use Rattle.area.specs.Rows.{areaOf}
 use Rattle.ends.specs.declared.BadTurn.{BadTurn}
 use Rattle.ends.specs.declared.BadTurn.the-variants.{None, At}
 

@@ -4,9 +4,9 @@ ghost use Prim.Native.Nat.{_*_, _≤_};
 ghost use lib.ListN.{length};
 ghost use Rattle.limits.specs.Limits.{maxParties};
 ghost use Rattle.rules.specs.Calls.{badTurnFrom};
-ghost use Rattle.rules.specs.Lent.{areaSize};
+ghost use Rattle.area.specs.Rows.{rowSize};
 ghost use Rattle.ends.specs.Ends.{found, finishedAt, AllFirst, OpensOne, OpensAll, Finishes};
-use area::stand::AREA;
+use area::stand::ROW;
 use area::stand::Stand;
 use seats::Seat;
 
@@ -38,7 +38,7 @@ pub fn bad_turn(turns: &[u8], n: u8) -> BadTurn
 
 // A site's own area at the start.
 fn open_one(program: &[u8], nodes: usize, start: Stand, area: &mut [u8])
-    requires { ⌜ (nodes ≤ 1024) × (areaSize ≤ length (now area)) ⌝ }
+    requires { ⌜ (nodes ≤ 1024) × (rowSize ≤ length (now area)) ⌝ }
     ensures { λ _. ⌜ OpensOne (now (program .entry)) nodes start (now (area .exit)) ⌝ }
 {
     table::prepare(program, nodes, area);
@@ -47,38 +47,38 @@ fn open_one(program: &[u8], nodes: usize, start: Stand, area: &mut [u8])
 
 // The first site's area is copied to those of the n - 1 others.
 fn copy_first(n: u8, work: &mut [u8])
-    requires { ⌜ (n ≤ maxParties) × (n * areaSize ≤ length (now work)) ⌝ }
+    requires { ⌜ (n ≤ maxParties) × (n * rowSize ≤ length (now work)) ⌝ }
     ensures { λ _. ⌜ AllFirst n (now (work .entry)) (now (work .exit)) ⌝ }
 {
     let mut p: u8 = 1;
     while p < n {
-        let to = (p as usize) * AREA;
-        stretches::copy_within(work, 0, to, AREA);
+        let to = (p as usize) * ROW;
+        stretches::copy_within(work, 0, to, ROW);
         p += 1;
     }
 }
 
 // The areas of n sites at the start. They are alike, so the table of places is made once.
 pub fn open_all(program: &[u8], nodes: usize, start: Stand, n: u8, work: &mut [u8])
-    requires { ⌜ (nodes ≤ 1024) × (n ≤ maxParties) × (n * areaSize ≤ length (now work)) ⌝ }
+    requires { ⌜ (nodes ≤ 1024) × (n ≤ maxParties) × (n * rowSize ≤ length (now work)) ⌝ }
     ensures { λ _. ⌜ OpensAll (now (program .entry)) nodes start n (now (work .exit)) ⌝ }
 {
     if n == 0 {
         return;
     }
-    open_one(program, nodes, start, &mut work[..AREA]);
+    open_one(program, nodes, start, &mut work[..ROW]);
     copy_first(n, work);
 }
 
 // All of n sites have finished.
 pub fn all_finished(n: u8, work: &[u8]) -> bool
-    requires { ⌜ (n ≤ maxParties) × (n * areaSize ≤ length (now work)) ⌝ }
+    requires { ⌜ (n ≤ maxParties) × (n * rowSize ≤ length (now work)) ⌝ }
     ensures { λ r. ⌜ Finishes n r (now (work .entry)) ⌝ }
 {
     let mut p: u8 = 0;
     while p < n {
-        let from = (p as usize) * AREA;
-        let to = from + AREA;
+        let from = (p as usize) * ROW;
+        let to = from + ROW;
         if !is_finished(&work[from..to]) {
             return false;
         }
@@ -89,7 +89,7 @@ pub fn all_finished(n: u8, work: &[u8]) -> bool
 
 // The site of an area has finished.
 fn is_finished(area: &[u8]) -> bool
-    requires { ⌜ areaSize ≤ length (now area) ⌝ }
+    requires { ⌜ rowSize ≤ length (now area) ⌝ }
     ensures { λ r. ⌜ r ≡ finishedAt (now (area .entry)) ⌝ }
 {
     match seats::load_seat(area) {

@@ -3,7 +3,7 @@ use mathlib.Core.Path.{_≡_, refl, sym, ap, _∙_, subst}
 use mathlib.Core.Bool.{Bool, true, false, _&&_, cond}
 use mathlib.Core.List.{List, [], _∷_}
 use mathlib.Core.Option.{none, some}
-use Prim.Native.Nat.{ℕ, zero, suc, _+_, _≤_, _<_}
+use Prim.Native.Nat.{ℕ, zero, suc, _+_, _*_, _≤_, _<_}
 use native.Mathlib.Numerals.{add-one}
 use native.Mathlib.Omega.{arith}
 use borrow.Author.Tests.{ltb-true}
@@ -17,7 +17,14 @@ use Rattle.rules.specs.Joint.{Sites, Turned, turn, also, runTurns}
 use Rattle.rules.specs.Single.{Setting}
 use Rattle.meets.specs.Places.{settingOf, Given, Stands, InputsStand}
 use Rattle.turn_steps.specs.Steps.{once}
-use Rattle.sites.specs.Turns.{Turns}
+use Rattle.area.specs.Rows.{rowSize}
+use Rattle.area.specs.declared.stand.Stand.{Stand}
+use Rattle.advance.specs.Strides.{RowsFit, Led, StridesTo}
+use Rattle.advance.specs.declared.strides.Strode.{Strode}
+use Rattle.advance.proofs.StrideLaws.{led-keep, back-length}
+use Rattle.sites.specs.Turns.{Turns, TurnsCame}
+use Rattle.sites.proofs.TurnLaws.{turn-led}
+use Rattle.invariants.proofs.RowLaws.{rows}
 use Rattle.joint.specs.Runs.{AllBelow, RunsTurns}
 
 -- ---- no turn is bad
@@ -49,6 +56,9 @@ module _ (n : ℕ) (ts : List ℕ) (e : badTurnFrom n 0 ts ≡ none) where
   turns-below = below-from n 0 ts e
 
 -- ---- the loop over the turns
+pub rows-fit : (n : ℕ) (ts : List ℕ) (long : ℕ) → AllBelow n ts → n * rowSize ≤ long → RowsFit true ts long
+rows-fit n ts long below h j inside = omega (arith, rows (getD ts j 0) n rowSize (below j (inside refl)), h)
+
 once-le : (r : Bool) → once r ≤ 1
 once-le true = omega arith
 once-le false = omega arith
@@ -99,3 +109,38 @@ module _ (bs : List ℕ) (nodes : ℕ) (ts : List ℕ) (n room : ℕ) (is : List
                 omega (arith, ec, ap (λ (x : Turned). x .count) none),
               );
         }
+
+  counted : {a c : ℕ} (b d : ℕ) {at bytes lengths work : List ℕ} → a ≡ b → c ≡ d → Going a c at bytes lengths work → Going b d at bytes lengths work
+  counted b d e f g = rw (← e, ← f) g
+
+  -- so many turns that led on
+  going-led : (j count : ℕ) (at bytes lengths work : List ℕ) → Going j count at bytes lengths work → AllBelow n ts → n * rowSize ≤ length work → n ≤ length at
+      → (k : ℕ) (t u : Stand) (v : List ℕ) → j + k ≤ length ts → Led true ts bs nodes j k t work u v → Going (j + k) (count + k) at bytes lengths v × (length v ≡ length work)
+  going-led j count at bytes lengths work go below long places k t u v fits led =
+      led-keep true ts bs nodes j t work (λ i s x. j + i ≤ length ts → Going (j + i) (count + i) at bytes lengths x × (length x ≡ length work))
+      (λ h. (counted (j + 0) (count + 0) (omega arith) (omega arith) go, refl))
+      (λ i s u x v goes led h.
+      let P : ℕ = getD ts (j + i) 0 in
+      let inside : j + i < length ts = omega arith in
+      let (g, same) = goes (omega arith) in
+      let lent : P * rowSize + rowSize ≤ length x = omega (arith, rows P n rowSize (below (j + i) inside)) in
+      let (ys, leads, size, e) = led in (
+        counted (j + (i + 1)) (count + (i + 1)) (omega arith) (omega arith)
+            (going-more (j + i) (count + i) at bytes lengths x g true 1 at bytes lengths v below inside refl
+            (turn-led bs nodes P n room is end at bytes lengths s u x v (omega (arith, below (j + i) inside)) lent led)),
+        rw e (back-length P x ys lent size ∙ same),
+      ))
+      k u v led fits
+
+  -- a stride of them, and the turn after it
+  pub going-stride : (j count : ℕ) (at bytes lengths work : List ℕ) → Going j count at bytes lengths work → AllBelow n ts → n * rowSize ≤ length work → n ≤ length at
+      → (start : Stand) (most : ℕ) (r : Strode) (x : List ℕ) → StridesTo true ts bs nodes j start most r work x → j + most ≤ length ts
+      → (b : Bool) (k : ℕ) (at′ bytes′ lengths′ work′ : List ℕ) → k ≡ once b → TurnsCame bs nodes (r .came) (getD ts (j + r .moves) 0) n room is end b at bytes lengths x at′ bytes′ lengths′ work′
+      → Going (j + r .moves + 1) (count + (r .moves + k)) at′ bytes′ lengths′ work′
+  going-stride j count at bytes lengths work go below long places start most r x (few, t, v, led, stops) fits b k at′ bytes′ lengths′ work′ e turn =
+      let P : ℕ = getD ts (j + r .moves) 0 in
+      let inside : j + r .moves < length ts = omega arith in
+      let (g, same) = going-led j count at bytes lengths work go below long places (r .moves) start t v (omega arith) led in
+      counted (j + r .moves + 1) (count + (r .moves + k)) refl (omega arith)
+      (going-more (j + r .moves) (count + r .moves) at bytes lengths v g b k at′ bytes′ lengths′ work′ below inside e
+      (turn .comes t v (omega (arith, rows P n rowSize (below (j + r .moves) inside))) stops))

@@ -4,11 +4,13 @@ ghost use Prim.Native.Nat.{_*_, _≤_};
 ghost use lib.ListN.{length};
 ghost use Rattle.limits.specs.Limits.{maxParties};
 ghost use Rattle.program.specs.Answer.{accepted, checkAnswer};
-ghost use Rattle.rules.specs.Lent.{areaSize, sum};
+ghost use Rattle.rules.specs.Lent.{sum};
+ghost use Rattle.area.specs.Rows.{rowSize};
 ghost use Rattle.rules.specs.Calls.{maxTurns, badTurnFrom, jointCall};
 ghost use mathlib.Core.Option.{none};
 ghost use Rattle.turn_steps.specs.Steps.{once};
 ghost use Rattle.joint.specs.Runs.{AllBelow, RunsTurns, Drives, Is};
+use advance::strides::strides;
 use area::stand::AREA;
 use area::stand::Stand;
 use ends::BadTurn;
@@ -33,7 +35,7 @@ fn once(counts: bool) -> u32
     if counts { 1 } else { 0 }
 }
 
-// All turns of the list, one after the other: how many count.
+// All turns of the list: strides of moves, and what is left to do of the turn after each. How many turns count.
 fn run_turns(
     program: &[u8],
     nodes: usize,
@@ -47,16 +49,27 @@ fn run_turns(
     lengths: &mut [usize],
     work: &mut [u8],
 ) -> u32
-    requires { ⌜ (length (now turns) ≤ maxTurns) × AllBelow n (now turns) × (n ≤ maxParties) × (n * room ≤ length (now bytes)) × (n ≤ length (now lengths)) × (n * areaSize ≤ length (now work)) × (maxParties ≤ length (now at)) × (maxParties ≤ length (now end)) × (nodes ≤ 1024) ⌝ }
+    requires { ⌜ (length (now turns) ≤ maxTurns) × AllBelow n (now turns) × (n ≤ maxParties) × (n * room ≤ length (now bytes)) × (n ≤ length (now lengths)) × (n * rowSize ≤ length (now work)) × (maxParties ≤ length (now at)) × (maxParties ≤ length (now end)) × (nodes ≤ 1024) ⌝ }
     ensures { λ k. ⌜ RunsTurns (now (program .entry)) nodes (now (turns .entry)) n room (now (inputs .entry)) (now (end .entry)) k (now (at .entry)) (now (bytes .entry)) (now (lengths .entry)) (now (work .entry)) (now (bytes .exit)) (now (lengths .exit)) (now (work .exit)) ⌝ }
 {
+    let nowhere = Stand {
+        node: 0,
+        mode: PartySet { bits: 0 },
+        depth: Depth { frames: 0 },
+    };
     let mut count: u32 = 0;
     let mut j = 0;
     while j < turns.len() {
-        count += once(sites::turn(
+        let most = (turns.len() - j) as u32;
+        let strode = strides(true, turns, j, program, nodes, nowhere, most, work);
+        let came = strode.came;
+        j += strode.moves as usize;
+        let p = turns[j];
+        let counts = sites::turn(
             program,
             nodes,
-            turns[j],
+            came,
+            p,
             n,
             room,
             inputs,
@@ -65,7 +78,8 @@ fn run_turns(
             bytes,
             lengths,
             work,
-        ));
+        );
+        count += strode.moves + once(counts);
         j += 1;
     }
     count
@@ -84,7 +98,7 @@ fn drive(
     lengths: &mut [usize],
     work: &mut [u8],
 ) -> Answer
-    requires { ⌜ (n ≤ maxParties) × (1 ≤ nodes) × (nodes ≤ 1024) × (n * room ≤ length (now bytes)) × (n ≤ length (now lengths)) × (n * areaSize ≤ length (now work)) × (length (now counts) ≡ n) × (sum (now counts) ≡ length (now inputs)) × (badTurnFrom n 0 (now turns) ≡ none) ⌝ }
+    requires { ⌜ (n ≤ maxParties) × (1 ≤ nodes) × (nodes ≤ 1024) × (n * room ≤ length (now bytes)) × (n ≤ length (now lengths)) × (n * rowSize ≤ length (now work)) × (length (now counts) ≡ n) × (sum (now counts) ≡ length (now inputs)) × (badTurnFrom n 0 (now turns) ≡ none) ⌝ }
     ensures { λ a. ⌜ Drives (now (program .entry)) n nodes room (now (counts .entry)) (now (inputs .entry)) (now (turns .entry)) a (now (bytes .entry)) (now (lengths .entry)) (now (bytes .exit)) (now (lengths .exit)) ⌝ }
 {
     let mut at = [0usize; 16];

@@ -6,7 +6,7 @@ ghost use lib.ListN.{length, take};
 ghost use Rattle.limits.specs.Limits.{maxFrames};
 ghost use Rattle.rules.specs.Names.{look, lookAll, namesOf};
 ghost use Rattle.rules.specs.Rules.{rule};
-ghost use Rattle.rules.specs.Lent.{areaSize};
+ghost use Rattle.area.specs.Rows.{rowSize};
 ghost use Rattle.area.specs.Levels.{namesAt};
 ghost use Rattle.lookup.specs.Lookup.{soughtOf, listed, padded, told};
 use area::stand::Stand;
@@ -29,7 +29,7 @@ pub enum Sought {
 
 // The binding of a name in the level that has so many frames below it, restricted to m.
 pub fn seek(w: &[u8], depth: Depth, m: PartySet, x: Name) -> Sought
-    requires { ⌜ (depth .frames ≤ maxFrames) × (areaSize ≤ length (now w)) ⌝ }
+    requires { ⌜ (depth .frames ≤ maxFrames) × (rowSize ≤ length (now w)) ⌝ }
     ensures { λ r. ⌜ r ≡ soughtOf x (look m (namesAt (now (w .entry)) (depth .frames)) x) ⌝ }
 {
     if x.index < Name::MAX {
@@ -89,7 +89,7 @@ pub enum Handed {
 }
 
 fn look_all(names: Reading, depth: Depth, m: PartySet, w: &[u8]) -> Handed
-    requires { ⌜ (depth .frames ≤ maxFrames) × (areaSize ≤ length (now w)) ⌝ }
+    requires { ⌜ (depth .frames ≤ maxFrames) × (rowSize ≤ length (now w)) ⌝ }
     ensures { λ r. ⌜ told r ≡ padded (lookAll m (namesAt (now (w .entry)) (depth .frames)) (listed names)) ⌝ }
 {
     let many = names.many;
@@ -131,7 +131,7 @@ fn look_all(names: Reading, depth: Depth, m: PartySet, w: &[u8]) -> Handed
 
 // What the node at which control stands asks for.
 pub fn effect(view: View, node: Node, t: Stand, w: &[u8]) -> Effect
-    requires { ⌜ (t .depth .frames ≤ maxFrames) × (areaSize ≤ length (now w)) ⌝ }
+    requires { ⌜ (t .depth .frames ≤ maxFrames) × (rowSize ≤ length (now w)) ⌝ }
     ensures { λ r. ⌜ r ≡ rule view node (t .mode) (namesAt (now (w .entry)) (t .depth .frames)) ⌝ }
 {
     let m = t.mode;

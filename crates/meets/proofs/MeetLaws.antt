@@ -23,7 +23,8 @@ use Rattle.rules.specs.declared.effects.Offer.the-variants.{Empty}
 use Rattle.invariants.proofs.AllOfLaws.{passes, all-none, all-more, all-lack}
 use Rattle.attends.specs.Attends.{told, IsAt}
 use Rattle.attends.specs.declared.Attendance.{Attendance}
-use Rattle.meets.specs.Places.{areaOf, settingOf}
+use Rattle.area.specs.Rows.{areaOf}
+use Rattle.meets.specs.Places.{settingOf}
 use Rattle.meets.specs.Meets.{Attends, adding, gathered, Brings, MemberAgrees, Sitting, present, Gathers, AllAgree, Agreed}
 use Rattle.meets.specs.declared.present.Gathered.{Gathered}
 use Rattle.meets.specs.declared.present.Gathered.the-variants.{Missing, All}

@@ -1,25 +1,18 @@
 -- All sites, side by side in what was lent: site P's record and area are the P-th of their rows.
 use mathlib.Core.Path.{_≡_}
-use Prim.Native.Nat.{ℕ, _+_, _-_, _*_, _≤_, _<_}
+use Prim.Native.Nat.{ℕ, _-_, _*_, _≤_, _<_}
 use mathlib.Core.List.{List}
 use lib.IntN.{ℤ}
 use lib.ListN.{length, getD, take, drop}
 use Rattle.program.specs.Check.{Program, good, checked}
 use Rattle.rules.specs.Books.{used}
-use Rattle.rules.specs.Lent.{areaSize}
+use Rattle.area.specs.Rows.{areaOf}
 use Rattle.rules.specs.Single.{Setting}
 use Rattle.rules.specs.Joint.{Site, Sites, running, over, bookOf}
 use Rattle.invariants.specs.Room.{Fits}
 use Rattle.ledger.specs.Ledger.{Holds}
 use Rattle.table.specs.Table.{PlacesIn}
 use Rattle.seats.specs.Seats.{siteOf}
-
--- the P-th row of a size, as it is lent
-abbrev pub row : (size P : ℕ) → List ℕ → List ℕ
-row size P xs = take (P * size + size - P * size) (drop (P * size) xs)
-
-abbrev pub areaOf : ℕ → List ℕ → List ℕ
-areaOf P w = row areaSize P w
 
 abbrev pub settingOf : Program → ℕ → Setting
 settingOf p room = record { program = p; room = room }

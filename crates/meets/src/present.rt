@@ -2,9 +2,9 @@
 ghost use Prim.Native.Nat.{_*_, _+_, _≤_, _<_};
 ghost use lib.ListN.{length};
 ghost use Rattle.limits.specs.Limits.{maxParties};
-ghost use Rattle.rules.specs.Lent.{areaSize};
+ghost use Rattle.area.specs.Rows.{rowSize};
 ghost use Rattle.meets.specs.Meets.{Attends, Brings, Gathers, MemberAgrees, AllAgree, Agreed};
-use area::stand::AREA;
+use area::stand::ROW;
 use attends::Attendance;
 use limits::Party;
 use parties::sets::PartySet;
@@ -28,13 +28,13 @@ fn attendance_at(
     lengths: &[usize],
     work: &[u8],
 ) -> Attendance
-    requires { ⌜ (p < length (now lengths)) × (p * areaSize + areaSize ≤ length (now work)) ⌝ }
+    requires { ⌜ (p < length (now lengths)) × (p * rowSize + rowSize ≤ length (now work)) ⌝ }
     ensures { λ a. ⌜ Attends (now (program .entry)) nodes e m p room a (now (lengths .entry)) (now (work .entry)) ⌝ }
 {
     let i = p as usize;
     let party = Party { index: p };
-    let from = i * AREA;
-    let to = from + AREA;
+    let from = i * ROW;
+    let to = from + ROW;
     let used = lengths[i];
     attends::attendance_of(program, nodes, e, m, party, room, used, &work[from..to])
 }
@@ -51,7 +51,7 @@ fn brings(
     lengths: &[usize],
     work: &[u8],
 ) -> Gathered
-    requires { ⌜ (p < length (now lengths)) × (p * areaSize + areaSize ≤ length (now work)) ⌝ }
+    requires { ⌜ (p < length (now lengths)) × (p * rowSize + rowSize ≤ length (now work)) ⌝ }
     ensures { λ r. ⌜ Brings (now (program .entry)) nodes e m p room before r (now (lengths .entry)) (now (work .entry)) ⌝ }
 {
     let Attendance::There(offer) = attendance_at(program, nodes, e, m, p, room, lengths, work)
@@ -75,7 +75,7 @@ pub fn gather(
     lengths: &[usize],
     work: &[u8],
 ) -> Gathered
-    requires { ⌜ (n ≤ maxParties) × (n ≤ length (now lengths)) × (n * areaSize ≤ length (now work)) ⌝ }
+    requires { ⌜ (n ≤ maxParties) × (n ≤ length (now lengths)) × (n * rowSize ≤ length (now work)) ⌝ }
     ensures { λ r. ⌜ Gathers (now (program .entry)) nodes e m n room r (now (lengths .entry)) (now (work .entry)) ⌝ }
 {
     let mut brought = Offer::Empty;
@@ -104,7 +104,7 @@ fn member_agrees(
     lengths: &[usize],
     work: &[u8],
 ) -> bool
-    requires { ⌜ (p < length (now lengths)) × (p * areaSize + areaSize ≤ length (now work)) ⌝ }
+    requires { ⌜ (p < length (now lengths)) × (p * rowSize + rowSize ≤ length (now work)) ⌝ }
     ensures { λ r. ⌜ MemberAgrees (now (program .entry)) nodes e m p room number holders r (now (lengths .entry)) (now (work .entry)) ⌝ }
 {
     let party = Party { index: p };
@@ -124,7 +124,7 @@ fn all_agree(
     lengths: &[usize],
     work: &[u8],
 ) -> bool
-    requires { ⌜ (n ≤ maxParties) × (n ≤ length (now lengths)) × (n * areaSize ≤ length (now work)) ⌝ }
+    requires { ⌜ (n ≤ maxParties) × (n ≤ length (now lengths)) × (n * rowSize ≤ length (now work)) ⌝ }
     ensures { λ r. ⌜ AllAgree (now (program .entry)) nodes e m n room number holders r (now (lengths .entry)) (now (work .entry)) ⌝ }
 {
     let mut p = m.next(0);
@@ -162,7 +162,7 @@ pub fn agreed(
     lengths: &[usize],
     work: &[u8],
 ) -> bool
-    requires { ⌜ (n ≤ maxParties) × (n ≤ length (now lengths)) × (n * areaSize ≤ length (now work)) ⌝ }
+    requires { ⌜ (n ≤ maxParties) × (n ≤ length (now lengths)) × (n * rowSize ≤ length (now work)) ⌝ }
     ensures { λ r. ⌜ Agreed (now (program .entry)) nodes e m mt n room number holders r (now (lengths .entry)) (now (work .entry)) ⌝ }
 {
     match mt {

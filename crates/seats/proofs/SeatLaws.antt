@@ -17,7 +17,7 @@ use Rattle.parties.specs.SetBytes.{setBytes}
 use Rattle.parties.specs.declared.sets.PartySet.{PartySet}
 use Rattle.limits.specs.declared.Depth.{Depth}
 use Rattle.limits.specs.declared.MadeDepth.the-variants.{Is, Not}
-use Rattle.rules.specs.Lent.{areaSize}
+use Rattle.area.specs.Rows.{rowSize}
 use Rattle.area.specs.Levels.{controlOf}
 use Rattle.seats.specs.Seats.{seatPlace, runningAt, seatAt, DeepSeat, Saves}
 use Rattle.area.specs.declared.stand.Stand.{Stand}
@@ -65,7 +65,7 @@ module _ (vs w : List ℕ) where
   levels-stay t few = control-same t (sets w seatPlace vs) w (λ i h l. sets-before vs w seatPlace i (omega arith))
 
 -- ---- a seat is kept
-module _ (w : List ℕ) (room : areaSize ≤ length w) where
+module _ (w : List ℕ) (room : rowSize ≤ length w) where
   marked : (k : ℕ) → getD (set w seatPlace k) seatPlace 0 ≡ k
   marked k = simp add-zero at (sets-at (k ∷ []) w seatPlace 0 (omega arith) (omega arith))
 
@@ -77,7 +77,7 @@ module _ (w : List ℕ) (room : areaSize ≤ length w) where
   unfolding seatAt
   saved-stopped = record { seat = λ d. rw (marked 0); levels = levels-stay (0 ∷ []) w; table = table-sets (0 ∷ []) w seatPlace (omega arith) }
 
-pub saved-running : (t : Stand) (w w1 w2 : List ℕ) → areaSize ≤ length w → t .node < 2 ^ 16 → t .mode .bits < 2 ^ 16
+pub saved-running : (t : Stand) (w w1 w2 : List ℕ) → rowSize ≤ length w → t .node < 2 ^ 16 → t .mode .bits < 2 ^ 16
     → w1 ≡ sets (set w seatPlace 2) (seatPlace + 1) (lowFirst 2 (t .node)) → w2 ≡ sets w1 (seatPlace + 3) (setBytes (t .mode))
     → Saves (Running t) w (set w2 (seatPlace + 5) (t .depth .frames))
 unfolding seatAt

@@ -40,6 +40,12 @@ seated Stopped w b = over false b
 unfoldable pub siteOf : List ℕ → Book → Site
 siteOf w b = seated (seatAt w) w b
 
+-- the site finished or stopped
+abbrev pub IsOver : Seat → Type 0
+IsOver (Running t) = ⊥
+IsOver Finished = Unit {0}
+IsOver Stopped = Unit {0}
+
 -- no more frames are down than there are levels for
 abbrev pub DeepSeat : Seat → Type 0
 DeepSeat (Running t) = t .depth .frames ≤ maxFrames

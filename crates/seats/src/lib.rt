@@ -2,7 +2,7 @@
 ghost use mathlib.Core.Path.{_≡_};
 ghost use Prim.Native.Nat.{_≤_};
 ghost use lib.ListN.{length};
-ghost use Rattle.rules.specs.Lent.{areaSize};
+ghost use Rattle.area.specs.Rows.{rowSize};
 ghost use Rattle.seats.specs.Seats.{seatAt, Saves};
 use area::stand::Stand;
 use limits::Depth;
@@ -30,7 +30,7 @@ const FINISHED: u8 = 1;
 const RUNNING: u8 = 2;
 
 pub fn load_seat(w: &[u8]) -> Seat
-    requires { ⌜ areaSize ≤ length (now w) ⌝ }
+    requires { ⌜ rowSize ≤ length (now w) ⌝ }
     ensures { λ r. ⌜ r ≡ seatAt (now (w .entry)) ⌝ }
 {
     let how = w[HOW];
@@ -51,7 +51,7 @@ pub fn load_seat(w: &[u8]) -> Seat
 }
 
 pub fn save_seat(seat: Seat, w: &mut [u8])
-    requires { ⌜ areaSize ≤ length (now w) ⌝ }
+    requires { ⌜ rowSize ≤ length (now w) ⌝ }
     ensures { λ _. ⌜ Saves seat (now (w .entry)) (now (w .exit)) ⌝ }
 {
     match seat {

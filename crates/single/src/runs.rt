@@ -4,10 +4,12 @@ ghost use Prim.Native.Nat.{_*_, _≤_};
 ghost use lib.ListN.{length};
 ghost use Rattle.limits.specs.Limits.{maxParties, maxFrames};
 ghost use Rattle.program.specs.Answer.{accepted, checkAnswer};
-ghost use Rattle.rules.specs.Lent.{areaSize, sum};
+ghost use Rattle.rules.specs.Lent.{sum};
+ghost use Rattle.area.specs.Rows.{rowSize};
 ghost use Rattle.rules.specs.Calls.{singleCall};
 ghost use Rattle.single.specs.Runs.{RunsOn, Drives, Is};
 use area::stand::AREA;
+use area::stand::ROW;
 use area::stand::Stand;
 use inputs::counts_fit;
 use limits::Depth;
@@ -41,7 +43,7 @@ fn run_on(
     lengths: &mut [usize],
     work: &mut [u8],
 ) -> Answer
-    requires { ⌜ (n ≤ maxParties) × (n * room ≤ length (now bytes)) × (n ≤ length (now lengths)) × (start .depth .frames ≤ maxFrames) × (areaSize ≤ length (now work)) × (maxParties ≤ length (now at)) × (maxParties ≤ length (now end)) × (nodes ≤ 1024) ⌝ }
+    requires { ⌜ (n ≤ maxParties) × (n * room ≤ length (now bytes)) × (n ≤ length (now lengths)) × (start .depth .frames ≤ maxFrames) × (length (now work) ≡ rowSize) × (maxParties ≤ length (now at)) × (maxParties ≤ length (now end)) × (nodes ≤ 1024) ⌝ }
     ensures { λ a. ⌜ RunsOn (now (program .entry)) nodes room n (now (inputs .entry)) (now (end .entry)) budget start a (record { bytes = now (bytes .entry); lengths = now (lengths .entry); work = now (work .entry); at = now (at .entry) }) (now (bytes .exit)) (now (lengths .exit)) ⌝ }
 {
     let mut t = start;
@@ -92,7 +94,7 @@ fn drive(
     lengths: &mut [usize],
     work: &mut [u8],
 ) -> Answer
-    requires { ⌜ (n ≤ maxParties) × (1 ≤ nodes) × (nodes ≤ 1024) × (n * room ≤ length (now bytes)) × (n ≤ length (now lengths)) × (areaSize ≤ length (now work)) × (length (now counts) ≡ n) × (sum (now counts) ≡ length (now inputs)) ⌝ }
+    requires { ⌜ (n ≤ maxParties) × (1 ≤ nodes) × (nodes ≤ 1024) × (n * room ≤ length (now bytes)) × (n ≤ length (now lengths)) × (length (now work) ≡ rowSize) × (length (now counts) ≡ n) × (sum (now counts) ≡ length (now inputs)) ⌝ }
     ensures { λ a. ⌜ Drives (now (program .entry)) n nodes room (now (counts .entry)) (now (inputs .entry)) budget a (now (bytes .entry)) (now (lengths .entry)) (now (bytes .exit)) (now (lengths .exit)) ⌝ }
 {
     let mut at = [0usize; 16];
@@ -159,7 +161,7 @@ fn run_good(
             budget,
             bytes,
             lengths,
-            work,
+            &mut work[..ROW],
         );
         stretches::zero(work);
         return answer;

@@ -4,11 +4,12 @@ ghost use Prim.Native.Nat.{_*_, _≤_};
 ghost use lib.ListN.{length};
 ghost use Rattle.limits.specs.Limits.{maxParties, maxFrames};
 ghost use Rattle.parties.specs.Sets.{count};
-ghost use Rattle.rules.specs.Lent.{areaSize};
+ghost use Rattle.area.specs.Rows.{rowSize};
 ghost use Rattle.single_step.specs.Steps.{Arrives, Moved, EntryOf, Settles, Strides};
 ghost use Rattle.rules.specs.RunLaws.{Sound};
 ghost use Rattle.advance.specs.Advances.{Asked};
 use advance::Advanced;
+use advance::strides::far;
 use area::stand::Next;
 use area::stand::Stand;
 use inputs::Taken;
@@ -17,7 +18,6 @@ use records::events::Event;
 use rules::effects::Effect;
 use rules::effects::Move;
 use rules::effects::Offer;
-use rules::effects::View;
 use values::value::Value;
 
 pub enum Stepped {
@@ -60,7 +60,7 @@ fn hand_back(
     lengths: &mut [usize],
     work: &mut [u8],
 ) -> Stepped
-    requires { ⌜ (n ≤ maxParties) × (n * room ≤ length (now bytes)) × (n ≤ length (now lengths)) × (t .depth .frames ≤ maxFrames) × (areaSize ≤ length (now work)) ⌝ }
+    requires { ⌜ (n ≤ maxParties) × (n * room ≤ length (now bytes)) × (n ≤ length (now lengths)) × (t .depth .frames ≤ maxFrames) × (rowSize ≤ length (now work)) ⌝ }
     ensures { λ y. ⌜ Moved room n (Move.Hand v) t y (now (bytes .entry)) (now (lengths .entry)) (now (work .entry)) (now (bytes .exit)) (now (lengths .exit)) (now (work .exit)) ⌝ }
 {
     let next = area::levels::hand_back(v, t.depth, work);
@@ -77,7 +77,7 @@ fn settled(
     lengths: &mut [usize],
     work: &mut [u8],
 ) -> Stepped
-    requires { ⌜ (n ≤ maxParties) × (n * room ≤ length (now bytes)) × (n ≤ length (now lengths)) × (t .depth .frames ≤ maxFrames) × (areaSize ≤ length (now work)) ⌝ }
+    requires { ⌜ (n ≤ maxParties) × (n * room ≤ length (now bytes)) × (n ≤ length (now lengths)) × (t .depth .frames ≤ maxFrames) × (rowSize ≤ length (now work)) ⌝ }
     ensures { λ y. ⌜ Settles room n entry t y (now (bytes .entry)) (now (lengths .entry)) (now (work .entry)) (now (bytes .exit)) (now (lengths .exit)) (now (work .exit)) ⌝ }
 {
     let m = t.mode;
@@ -148,10 +148,10 @@ pub fn step(
     lengths: &mut [usize],
     work: &mut [u8],
 ) -> Stride
-    requires { ⌜ (1 ≤ most) × (n ≤ maxParties) × (n * room ≤ length (now bytes)) × (n ≤ length (now lengths)) × (t .depth .frames ≤ maxFrames) × (areaSize ≤ length (now work)) × (maxParties ≤ length (now at)) × (maxParties ≤ length (now end)) × (nodes ≤ 1024) ⌝ }
+    requires { ⌜ (1 ≤ most) × (n ≤ maxParties) × (n * room ≤ length (now bytes)) × (n ≤ length (now lengths)) × (t .depth .frames ≤ maxFrames) × (length (now work) ≡ rowSize) × (maxParties ≤ length (now at)) × (maxParties ≤ length (now end)) × (nodes ≤ 1024) ⌝ }
     ensures { λ s. ⌜ Strides (now (program .entry)) nodes room n (now (inputs .entry)) (now (end .entry)) most t s (record { bytes = now (bytes .entry); lengths = now (lengths .entry); work = now (work .entry); at = now (at .entry) }) (record { bytes = now (bytes .exit); lengths = now (lengths .exit); work = now (work .exit); at = now (at .exit) }) ⌝ }
 {
-    let gone = advance::far(View::Whole, program, nodes, t, most, work);
+    let gone = far(program, nodes, t, most, work);
     let moves = gone.moves;
     let stand = gone.stand;
     let node = stand.node;

@@ -6,7 +6,7 @@ ghost use lib.IntN.{pos};
 ghost use Rattle.limits.specs.Limits.{maxFrames};
 ghost use Rattle.records.specs.Events.{hasRoom};
 ghost use Rattle.rules.specs.Books.{eventOf, eventFor};
-ghost use Rattle.rules.specs.Lent.{areaSize};
+ghost use Rattle.area.specs.Rows.{rowSize};
 ghost use Rattle.area.specs.Levels.{namesAt};
 ghost use Rattle.site.specs.Own.{meetingOf, meetingAt, Weighs, Invites};
 use area::stand::Stand;
@@ -61,7 +61,7 @@ fn meeting_of(effect: Effect) -> Invitation
 
 // The meeting that the rule of a joint node asks site p for.
 fn meeting(p: Party, node: JointNode, t: Stand, area: &[u8]) -> Invitation
-    requires { ⌜ (t .depth .frames ≤ maxFrames) × (areaSize ≤ length (now area)) ⌝ }
+    requires { ⌜ (t .depth .frames ≤ maxFrames) × (rowSize ≤ length (now area)) ⌝ }
     ensures { λ r. ⌜ r ≡ meetingAt (View.Site p) node (t .mode) (namesAt (now (area .entry)) (t .depth .frames)) ⌝ }
 {
     let m = t.mode;
@@ -95,7 +95,7 @@ pub fn invited(
     used: usize,
     area: &[u8],
 ) -> Invitation
-    requires { ⌜ (t .depth .frames ≤ maxFrames) × (areaSize ≤ length (now area)) ⌝ }
+    requires { ⌜ (t .depth .frames ≤ maxFrames) × (rowSize ≤ length (now area)) ⌝ }
     ensures { λ r. ⌜ Invites (now (program .entry)) nodes p t room used r (now (area .entry)) ⌝ }
 {
     let node = table::joint_node(program, nodes, area, t.node);

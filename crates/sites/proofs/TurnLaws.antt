@@ -1,67 +1,79 @@
 -- A turn, from what its parts say. Assumes nothing.
 use mathlib.Core.Path.{_≡_, refl, sym, ap, _∙_, subst}
 use mathlib.Core.Bool.{Bool, true, false}
-use mathlib.Core.List.{List, [], _∷_}
+use mathlib.Core.List.{List, [], _∷_, _++_}
 use Prim.Native.Nat.{ℕ, _+_, _-_, _*_, _≤_, _<_}
-use types.Run.{hit, miss}
+use native.Mathlib.Omega.{arith}
+use types.Run.{hit}
 use lib.IntN.{ℤ}
 use lib.ListN.{length, getD, set, take, drop}
+use lib.Seq.{set-getD, take-at, drop-at, length-take-le}
+use Rattle.limits.specs.Limits.{maxFrames}
 use Rattle.rules.specs.Books.{Book}
-use Rattle.rules.specs.Moves.{Control}
-use Rattle.rules.specs.Lent.{areaSize}
+use Rattle.rules.specs.Moves.{Control, on}
+use Rattle.area.specs.Rows.{rowSize, row, areaOf, back}
 use Rattle.rules.specs.Single.{Setting}
-use Rattle.rules.specs.Joint.{Site, Sites, Own, own, attends, running, put, meeting, turnOwn, turnAt, turn, bookOf, idle, counted}
+use Rattle.rules.specs.Joint.{Site, Sites, Own, land, own, attends, running, put, meeting, turnOwn, turnAt, turn, bookOf, idle, counted}
 use Rattle.rules.specs.declared.effects.Meeting.{Meeting}
 use Rattle.rules.specs.declared.effects.Offer.{Offer}
 use Rattle.rules.specs.declared.effects.Effect.{Effect}
 use Rattle.rules.specs.declared.effects.Effect.the-variants.{Goes}
+use Rattle.rules.specs.declared.effects.View.the-variants as View′
 use Rattle.inputs.specs.Inputs.{headOf}
 use Rattle.inputs.specs.declared.Taken.{Taken}
-use Rattle.area.specs.Levels.{controlOf}
-use Rattle.seats.specs.Seats.{seatAt, seated, siteOf}
+use Rattle.area.specs.Levels.{controlOf, nextOf}
+use Rattle.seats.specs.Seats.{seatAt, seated, siteOf, IsOver, DeepSeat, Saves}
 use Rattle.area.specs.declared.stand.Stand.{Stand}
+use Rattle.area.specs.declared.stand.Next.{Next}
+use Rattle.area.specs.declared.stand.Next.the-variants.{On, Ends, Full}
 use Rattle.seats.specs.declared.Seat.{Seat}
 use Rattle.seats.specs.declared.Seat.the-variants.{Running, Finished, Stopped}
-use Rattle.acts.specs.Acts as Site
-use Rattle.acts.specs.declared.Stepped.{Stepped}
-use Rattle.acts.specs.declared.Stepped.the-variants.{Landed, Asks}
-use Rattle.acts.proofs.ActLaws.{acts-goes}
+use Rattle.seats.proofs.SeatLaws.{seat-deep}
+use Rattle.advance.specs.Advances.{Asked, Advances}
+use Rattle.advance.specs.Strides.{onward, Kept, InRow, LeadsOn, AmongRows}
+use Rattle.advance.specs.declared.Advanced.{Advanced}
+use Rattle.advance.specs.declared.Advanced.the-variants.{Moved, Asks}
+use Rattle.advance.specs.declared.strides.Came.{Came}
+use Rattle.advance.specs.declared.strides.Came.the-variants.{Did, Over}
+use Rattle.acts.specs.Acts.{Takes, Lands}
+use Rattle.acts.proofs.ActLaws.{lands-on, step-lands, acts-goes}
 use Rattle.site.proofs.OwnLaws.{owned, weighs-acts}
 use Rattle.site.specs.Own as Owned
 use Rattle.site.specs.Own.{acted, Alone, Owns}
 use Rattle.site.specs.declared.own.Own as OwnOf
 use Rattle.site.specs.declared.own.Own.the-variants.{Acts, Attends}
 use Rattle.invariants.proofs.AttendsLaws.{attends-at}
-use Rattle.meets.specs.Places.{row, areaOf, settingOf, Given, Stands}
-use Rattle.sites.specs.Turns.{TurnsAsked, Turns}
-use Rattle.concludes.proofs.RowLaws.{back, back-same}
-use Rattle.concludes.proofs.StandLaws.{NotRunning, stands-length}
+use Rattle.meets.specs.Places.{settingOf, Given, Stands}
+use Rattle.sites.specs.Turns.{Turns, TurnsAsked, LandsRow, Fits, TurnsCame}
+use Rattle.area.proofs.RowLaws.{back-same}
+use Rattle.concludes.proofs.RowLaws.{row-own}
+use Rattle.concludes.proofs.StandLaws.{stands-length}
 use Rattle.turn_steps.specs.Steps.{Meets, ActsAlone}
 use Rattle.turn_steps.proofs.InputLaws.{meeting-inputs}
 use Rattle.turn_steps.proofs.AloneLaws.{alone-none}
 
-over-idle : (S : Setting) (P : ℕ) (seat : Seat) (w : List ℕ) (b : Book) (J : Sites) → NotRunning seat → turnAt S P (seated seat w b) J ≡ idle J
+over-idle : (S : Setting) (P : ℕ) (seat : Seat) (w : List ℕ) (b : Book) (J : Sites) → IsOver seat → turnAt S P (seated seat w b) J ≡ idle J
 unfolding turnAt
-over-idle S P (Running t) w b J h = absurd (miss (1 ∷ 2 ∷ []) 0 tt h)
+over-idle S P (Running t) w b J h = absurd h
 over-idle S P Finished w b J h = refl
 over-idle S P Stopped w b J h = refl
 
-module _ (bs : List ℕ) (nodes P n room : ℕ) (is : List ℤ) (end at bytes lengths work : List ℕ) (seat : Seat) (sits : seat ≡ seatAt (areaOf P work)) where
-  pub turn-over : NotRunning seat → Turns bs nodes P n room is end false at bytes lengths work at bytes lengths work
+module _ (bs : List ℕ) (nodes P n room : ℕ) (is : List ℤ) (end at bytes lengths work : List ℕ) where
+  pub turn-over : IsOver (seatAt (areaOf P work)) → Turns bs nodes P n room is end false at bytes lengths work at bytes lengths work
   unfolding turn siteOf
   turn-over h =
       record {
         comes = λ G J inside st ins.
-            let e : J P ≡ seated seat (areaOf P work) (bookOf (J P)) = st .sits P inside ∙ rw (← sits) in
             let q : turn (settingOf (G .program) room) P J ≡ idle J
-            = ap (λ (s : Site). turnAt (settingOf (G .program) room) P s J) e ∙ over-idle (settingOf (G .program) room) P seat (areaOf P work) (bookOf (J P)) J h in
+            = ap (λ (s : Site). turnAt (settingOf (G .program) room) P s J) (st .sits P inside)
+            ∙ over-idle (settingOf (G .program) room) P (seatAt (areaOf P work)) (areaOf P work) (bookOf (J P)) J h in
             rw q (st, ins, refl);
       }
 
-  module _ (t : Stand) (runs : seat ≡ Running t) (r : OwnOf.Own) (owns : Owns bs nodes (record { index = P }) t room (getD lengths P 0) r (areaOf P work)) where
+  module _ (t : Stand) (sits : Running t ≡ seatAt (areaOf P work)) (r : OwnOf.Own) (owns : Owns bs nodes (record { index = P }) t room (getD lengths P 0) r (areaOf P work)) where
     stands-at : (G : Given bs nodes room n) (J : Sites) → P < n → Stands G J bytes lengths work → J P ≡ running (controlOf t (areaOf P work)) (bookOf (J P))
     unfolding siteOf
-    stands-at G J inside st = st .sits P inside ∙ rw (← sits, runs)
+    stands-at G J inside st = st .sits P inside ∙ rw (← sits)
 
     turns-by : (G : Given bs nodes room n) (J : Sites) → P < n → Stands G J bytes lengths work
         → let S : Setting = settingOf (G .program) room in
@@ -101,27 +113,105 @@ module _ (bs : List ℕ) (nodes P n room : ℕ) (is : List ℤ) (end at bytes le
         }
 
 -- a turn by which control just moves
-pub turn-landed : (bs : List ℕ) (nodes P n room : ℕ) (is : List ℤ) (end at bytes lengths work : List ℕ) (seat : Seat) → seat ≡ seatAt (areaOf P work) → (t : Stand) → seat ≡ Running t
-    → (u′ : ℕ) (ys ws : List ℕ) (r : Stepped) → Site.Steps bs nodes t (record { index = P }) (getD lengths P 0) (row room P bytes) (areaOf P work) r ys ws → r ≡ Landed u′ → P < length at
-    → P * areaSize + areaSize ≤ length work → length ws ≡ areaSize → Turns bs nodes P n room is end true at bytes lengths work at (back room P bytes ys) (set lengths P u′) (back areaSize P work ws)
-turn-landed bs nodes P n room is end at bytes lengths work seat sits t runs u′ ys ws r steps q place long area =
-    let m = steps .landed u′ q in
+pub turn-landed : (bs : List ℕ) (nodes P n room : ℕ) (is : List ℤ) (end at bytes lengths work : List ℕ) (t : Stand) → Running t ≡ seatAt (areaOf P work)
+    → (next : Next) (w1 : List ℕ) → Advances (View′.Site (record { index = P })) bs nodes t (Moved next) (areaOf P work) w1
+    → (u′ : ℕ) (ys ws : List ℕ) → Lands next (t .node) (getD lengths P 0) (row room P bytes) w1 u′ ys ws → P < length at
+    → P * rowSize + rowSize ≤ length work → length ws ≡ rowSize → Turns bs nodes P n room is end true at bytes lengths work at (back room P bytes ys) (set lengths P u′) (back rowSize P work ws)
+turn-landed bs nodes P n room is end at bytes lengths work t sits next w1 advances u′ ys ws lands place long area =
+    let m = step-lands bs nodes t (record { index = P }) (getD lengths P 0) (row room P bytes) (areaOf P work) w1 next u′ ys ws advances lands in
     let input : Taken = headOf (take (getD end P 0 - getD at P 0) (drop (getD at P 0) is)) in
-    turn-acts bs nodes P n room is end at bytes lengths work seat sits t runs (Acts (Goes (m .0)))
+    turn-acts bs nodes P n room is end at bytes lengths work t sits (Acts (Goes (m .0)))
     (owned bs nodes (record { index = P }) t room (getD lengths P 0) (areaOf P work) (Goes (m .0)) (m .1) (Acts (Goes (m .0))) (weighs-acts P (Goes (m .0)) room (getD lengths P 0) (hit (0 ∷ 1 ∷ 2 ∷ 3 ∷ []) 1 tt)))
-    (Goes (m .0)) at (back room P bytes ys) (set lengths P u′) (back areaSize P work ws) refl
+    (Goes (m .0)) at (back room P bytes ys) (set lengths P u′) (back rowSize P work ws) refl
     (alone-none (Goes (m .0)) t P room is end at bytes lengths work input 0 u′ ys ws place long area refl refl
     (acts-goes input t (record { index = P }) (getD lengths P 0) (row room P bytes) (areaOf P work) u′ ys ws (Goes (m .0)) (m .0) refl (m .2)) refl)
 
--- what a site's step left as it was
-pub asked-turn : (bs : List ℕ) (nodes P n room : ℕ) (is : List ℤ) (end at bytes lengths work : List ℕ) (seat : Seat) → seat ≡ seatAt (areaOf P work) → (t : Stand) → seat ≡ Running t
-    → (effect : Effect) (ys ws : List ℕ) (r : Stepped) → Site.Steps bs nodes t (record { index = P }) (getD lengths P 0) (row room P bytes) (areaOf P work) r ys ws → r ≡ Asks effect
-    → (b : Bool) (at′ bytes′ lengths′ work′ : List ℕ)
-    → TurnsAsked bs nodes effect t P n room is end b at (back room P bytes ys) lengths (back areaSize P work ws) at′ bytes′ lengths′ work′
-    → Turns bs nodes P n room is end b at bytes lengths work at′ bytes′ lengths′ work′
-asked-turn bs nodes P n room is end at bytes lengths work seat sits t runs effect ys ws r steps q b at′ bytes′ lengths′ work′ k =
-    let m = steps .asks effect q in
-    let bytes-same : back room P bytes ys ≡ bytes = ap (λ (x : List ℕ). back room P bytes x) (m .2) ∙ back-same room P bytes in
-    let work-same : back areaSize P work ws ≡ work = ap (λ (x : List ℕ). back areaSize P work x) (m .3) ∙ back-same areaSize P work in
-    let l : TurnsAsked bs nodes effect t P n room is end b at bytes lengths work at′ bytes′ lengths′ work′ = rw (bytes-same, work-same) at k in
-    l .comes (sym runs ∙ sits) (m .0)
+-- ---- among the rows
+
+-- a row lent twice comes back as it was the second time
+back-again : (size P : ℕ) (xs ys zs : List ℕ) → length ys ≡ size → P * size + size ≤ length xs → back size P (back size P xs ys) zs ≡ back size P xs zs
+back-again size P xs ys zs len long =
+    let a : ℕ = P * size in
+    let k : ℕ = P * size + size - P * size in
+    let rest : List ℕ = drop k (drop a xs) in
+    let front : length (take a xs) ≡ a = length-take-le a xs (omega arith) in
+    let before : take a (take a xs ++ (ys ++ rest)) ≡ take a xs = take-at (take a xs) (ys ++ rest) a front in
+    let behind : drop a (take a xs ++ (ys ++ rest)) ≡ ys ++ rest = drop-at (take a xs) (ys ++ rest) a front in
+    let last : drop k (ys ++ rest) ≡ rest = drop-at ys rest k (omega arith) in
+    rw (before, behind, last)
+
+-- where a move led on is kept already: it lands there all the same
+lands-kept : (next : Next) (e u : ℕ) (xs x kept : List ℕ) (u′ : ℕ) (xs′ w′ : List ℕ) → Kept true (onward (Moved next)) x kept → Lands next e u xs kept u′ xs′ w′ → Lands next e u xs x u′ xs′ w′
+unfolding nextOf
+lands-kept (On t) e u xs x kept u′ xs′ w′ k l =
+    let s : Saves (Running t) x kept = k .saves refl in
+    record { lands = λ deep. let y : Takes (land e (on (controlOf t x))) u xs kept u′ xs′ w′ = rw (s .levels t deep) at (l .lands deep) in record { took = y .took; table = y .table ∙ s .table } }
+lands-kept (Ends v) e u xs x kept u′ xs′ w′ k l = subst (λ (y : List ℕ). Lands (Ends v) e u xs y u′ xs′ w′) k l
+lands-kept Full e u xs x kept u′ xs′ w′ k l = subst (λ (y : List ℕ). Lands Full e u xs y u′ xs′ w′) k l
+
+module _ (bs : List ℕ) (nodes P n room : ℕ) (is : List ℤ) (end at bytes lengths : List ℕ) where
+  -- a turn by which control just moves
+  pub turn-led : (t u : Stand) (w v : List ℕ) → P < length at → P * rowSize + rowSize ≤ length w → AmongRows P (LeadsOn true P bs nodes t u) w v
+      → Turns bs nodes P n room is end true at bytes lengths w at bytes lengths v
+  turn-led t u w v place long (ys, led, area, e) =
+      let own : List ℕ = row room P bytes in
+      let used : ℕ = getD lengths P 0 in
+      let lands : Lands (On u) (led .stand .node) used own (led .between) used own ys = lands-on (led .stand .node) used own (led .between) (On u) u ys refl (led .keeps .saves refl) in
+      let k : Turns bs nodes P n room is end true at bytes lengths w at (back room P bytes own) (set lengths P used) (back rowSize P w ys)
+      = turn-landed bs nodes P n room is end at bytes lengths w (led .stand) (led .sits) (On u) (led .between) (led .advances) used own ys lands place long area in
+      rw e (rw (back-same room P bytes, set-getD lengths P 0) at k)
+
+  module _ (work : List ℕ) where
+    -- the site is over
+    pub came-over : (came : Came) → came ≡ Over → TurnsCame bs nodes came P n room is end false at bytes lengths work at bytes lengths work
+    came-over came q =
+        record {
+          comes = λ t w long (ys, stops, area, e).
+              let o = stops .over q in
+              let same : work ≡ w = e ∙ ap (λ (x : List ℕ). back rowSize P w x) (o .1) ∙ back-same rowSize P w in
+              rw same (turn-over bs nodes P n room is end at bytes lengths w (o .0));
+        }
+
+    module _ (came : Came) (s : Stand) (y : Advanced) (did : came ≡ Did s y) where
+      -- control moved
+      pub came-moved : (next : Next) (bytes′ lengths′ work′ : List ℕ) → y ≡ Moved next → LandsRow next (s .node) P room bytes lengths work bytes′ lengths′ work′ → P < length at
+          → TurnsCame bs nodes came P n room is end true at bytes lengths work at bytes′ lengths′ work′
+      came-moved next bytes′ lengths′ work′ q l place =
+          record {
+            comes = λ t w long (ys, stops, area, e).
+                let d = stops .did s y did in
+                let x : List ℕ = d .1 in
+                let advances : Advances (View′.Site (record { index = P })) bs nodes s (Moved next) (areaOf P w) x
+                = subst (λ (z : Advanced). Advances (View′.Site (record { index = P })) bs nodes s z (areaOf P w) x) q (d .2) in
+                let own : areaOf P work ≡ ys = rw e (row-own rowSize P w ys area long) in
+                let lands : Lands next (s .node) (getD lengths P 0) (row room P bytes) x (l .used) (l .own) (l .area)
+                = lands-kept next (s .node) (getD lengths P 0) (row room P bytes) x ys (l .used) (l .own) (l .area) (subst (λ (z : Advanced). Kept true (onward z) x ys) q (d .3)) (rw own at (l .lands)) in
+                let areas : work′ ≡ back rowSize P w (l .area) = l .areas ∙ rw e (back-again rowSize P w ys (l .area) area long) in
+                rw (l .records, l .counts, areas)
+                (turn-landed bs nodes P n room is end at bytes lengths w s (d .0) next x advances (l .used) (l .own) (l .area) lands place long (l .long));
+          }
+
+      -- its rule asks for more than a move
+      pub came-asked : (effect : Effect) (b : Bool) (at′ bytes′ lengths′ work′ : List ℕ) → y ≡ Asks effect → TurnsAsked bs nodes effect s P n room is end b at bytes lengths work at′ bytes′ lengths′ work′
+          → TurnsCame bs nodes came P n room is end b at bytes lengths work at′ bytes′ lengths′ work′
+      came-asked effect b at′ bytes′ lengths′ work′ q k =
+          record {
+            comes = λ t w long (ys, stops, area, e).
+                let d = stops .did s y did in
+                let a = d .2 .asks effect q in
+                let none : ys ≡ d .1 = subst (λ (z : Advanced). Kept true (onward z) (d .1) ys) q (d .3) in
+                let same : work ≡ w = e ∙ ap (λ (x : List ℕ). back rowSize P w x) (none ∙ a .2) ∙ back-same rowSize P w in
+                let l : TurnsAsked bs nodes effect s P n room is end b at bytes lengths w at′ bytes′ lengths′ work′ = rw same at k in
+                l .comes (d .0) (a .0);
+          }
+
+-- what a turn came to fits
+pub came-fits : (bs : List ℕ) (nodes P : ℕ) (came : Came) (t : Stand) (w x : List ℕ) → AmongRows P (InRow true P bs nodes t came) w x → Fits came
+came-fits bs nodes P (Did s (Moved next)) t w x (ys, stops, area, e) = subst DeepSeat (sym (stops .did s (Moved next) refl .0)) (seat-deep (areaOf P w))
+came-fits bs nodes P (Did s (Asks effect)) t w x (ys, stops, area, e) =
+    let d = stops .did s (Asks effect) refl in
+    (subst DeepSeat (sym (d .0)) (seat-deep (areaOf P w)), d .2 .asks effect refl .1)
+came-fits bs nodes P Over t w x h = tt
+
+pub fits-asked : (came : Came) (s : Stand) (y : Advanced) (effect : Effect) → came ≡ Did s y → y ≡ Asks effect → Fits came → (s .depth .frames ≤ maxFrames) × Asked effect
+fits-asked came s y effect did q h = subst Fits (did ∙ ap (λ (x : Advanced). Did s x) q) h

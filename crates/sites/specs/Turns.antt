@@ -1,17 +1,26 @@
 -- A turn in the lent bytes: from the sites that they hold to the sites after it, and whether it counts.
 use mathlib.Core.Path.{_≡_}
-use Prim.Native.Nat.{ℕ, _<_}
-use mathlib.Core.Bool.{Bool}
+use Prim.Native.Nat.{ℕ, _+_, _*_, _≤_, _<_}
+use mathlib.Core.Bool.{Bool, true}
 use mathlib.Core.List.{List}
 use lib.IntN.{ℤ}
+use lib.ListN.{length, getD, set}
+use Rattle.limits.specs.Limits.{maxFrames}
 use Rattle.rules.specs.Joint.{Sites, turn}
 use Rattle.rules.specs.declared.effects.Effect.{Effect}
 use Rattle.rules.specs.declared.effects.View.the-variants.{Site}
+use Rattle.area.specs.Rows.{rowSize, row, areaOf, back}
 use Rattle.area.specs.declared.stand.Stand.{Stand}
+use Rattle.area.specs.declared.stand.Next.{Next}
 use Rattle.seats.specs.Seats.{seatAt}
 use Rattle.seats.specs.declared.Seat.the-variants.{Running}
-use Rattle.advance.specs.Advances.{ruleAt}
-use Rattle.meets.specs.Places.{areaOf, settingOf, Given, Stands, InputsStand}
+use Rattle.advance.specs.Advances.{ruleAt, Asked}
+use Rattle.advance.specs.Strides.{InRow, AmongRows}
+use Rattle.advance.specs.declared.Advanced.the-variants.{Moved, Asks}
+use Rattle.advance.specs.declared.strides.Came.{Came}
+use Rattle.advance.specs.declared.strides.Came.the-variants.{Did, Over}
+use Rattle.acts.specs.Acts.{Lands}
+use Rattle.meets.specs.Places.{settingOf, Given, Stands, InputsStand}
 use Rattle.turn_steps.specs.Steps.{once}
 
 -- a turn of site P
@@ -24,3 +33,25 @@ pub record Turns (bs : List ℕ) (nodes P n room : ℕ) (is : List ℤ) (end : L
 pub record TurnsAsked (bs : List ℕ) (nodes : ℕ) (effect : Effect) (t : Stand) (P n room : ℕ) (is : List ℤ) (end : List ℕ) (r : Bool) (at bytes lengths work at′ bytes′ lengths′ work′ : List ℕ) : Type 0 where
   pub comes : Running t ≡ seatAt (areaOf P work) → effect ≡ ruleAt (Site (record { index = P })) bs nodes t (areaOf P work)
       → Turns bs nodes P n room is end r at bytes lengths work at′ bytes′ lengths′ work′
+
+-- where a move has led site P, which stood at the node e: of all rows only its own change
+pub record LandsRow (next : Next) (e P room : ℕ) (bytes lengths work bytes′ lengths′ work′ : List ℕ) : Type 0 where
+  pub used : ℕ
+  pub own : List ℕ
+  pub area : List ℕ
+  pub lands : Lands next e (getD lengths P 0) (row room P bytes) (areaOf P work) used own area
+  pub long : length area ≡ rowSize
+  pub records : bytes′ ≡ back room P bytes own
+  pub counts : lengths′ ≡ set lengths P used
+  pub areas : work′ ≡ back rowSize P work area
+
+-- what a step can have come to: no more frames are down than there are levels for, and a rule asks for more than a move
+abbrev pub Fits : Came → Type 0
+Fits (Did t (Moved next)) = t .depth .frames ≤ maxFrames
+Fits (Did t (Asks effect)) = (t .depth .frames ≤ maxFrames) × Asked effect
+Fits Over = Unit {0}
+
+-- what is left to do of a turn of site P, which in the rows work₀ came to this
+pub record TurnsCame (bs : List ℕ) (nodes : ℕ) (came : Came) (P n room : ℕ) (is : List ℤ) (end : List ℕ) (r : Bool) (at bytes lengths work at′ bytes′ lengths′ work′ : List ℕ) : Type 0 where
+  pub comes : (t : Stand) (work₀ : List ℕ) → P * rowSize + rowSize ≤ length work₀ → AmongRows P (InRow true P bs nodes t came) work₀ work
+      → Turns bs nodes P n room is end r at bytes lengths work₀ at′ bytes′ lengths′ work′

@@ -1,16 +1,17 @@
-// A turn: the site steps, or stops by its own check, or nothing changes.
-ghost use Prim.Native.Nat.{_*_, _≤_, _<_};
+// What a turn comes to where control does not just go on: the site finishes, stops, meets others or acts, or nothing changes.
+ghost use Prim.Native.Nat.{_+_, _*_, _≤_, _<_};
 ghost use lib.ListN.{length};
 ghost use Rattle.limits.specs.Limits.{maxParties, maxFrames};
-ghost use Rattle.rules.specs.Lent.{areaSize};
+ghost use Rattle.area.specs.Rows.{rowSize};
 ghost use Rattle.advance.specs.Advances.{Asked};
-ghost use Rattle.sites.specs.Turns.{TurnsAsked, Turns};
-use acts::Stepped;
-use area::stand::AREA;
+ghost use Rattle.sites.specs.Turns.{LandsRow, TurnsAsked, Fits, TurnsCame};
+use advance::Advanced;
+use advance::strides::Came;
+use area::stand::Next;
+use area::stand::ROW;
 use area::stand::Stand;
 use limits::Party;
 use rules::effects::Effect;
-use seats::Seat;
 use site::own::Own;
 
 // Site p, which stands at t, meets others, or does by itself what its rule asks for besides a move: whether the turn counts.
@@ -29,7 +30,7 @@ fn asked(
     lengths: &mut [usize],
     work: &mut [u8],
 ) -> bool
-    requires { ⌜ (p < n) × (n ≤ maxParties) × (n * room ≤ length (now bytes)) × (n ≤ length (now lengths)) × (n * areaSize ≤ length (now work)) × (maxParties ≤ length (now at)) × (maxParties ≤ length (now end)) × (t .depth .frames ≤ maxFrames) × Asked effect ⌝ }
+    requires { ⌜ (p < n) × (n ≤ maxParties) × (n * room ≤ length (now bytes)) × (n ≤ length (now lengths)) × (n * rowSize ≤ length (now work)) × (maxParties ≤ length (now at)) × (maxParties ≤ length (now end)) × (t .depth .frames ≤ maxFrames) × Asked effect ⌝ }
     ensures { λ r. ⌜ TurnsAsked (now (program .entry)) nodes effect t p n room (now (inputs .entry)) (now (end .entry)) r (now (at .entry)) (now (bytes .entry)) (now (lengths .entry)) (now (work .entry)) (now (at .exit)) (now (bytes .exit)) (now (lengths .exit)) (now (work .exit)) ⌝ }
 {
     let e = t.node;
@@ -55,10 +56,39 @@ fn asked(
     }
 }
 
-// A turn of site p: whether it counts.
+// Where a move has led site p, which stood at a node.
+fn landed(
+    next: Next,
+    node: u16,
+    p: u8,
+    room: usize,
+    bytes: &mut [u8],
+    lengths: &mut [usize],
+    work: &mut [u8],
+)
+    requires { ⌜ (p * room + room ≤ length (now bytes)) × (p < length (now lengths)) × (p * rowSize + rowSize ≤ length (now work)) ⌝ }
+    ensures { λ _. ⌜ LandsRow next node p room (now (bytes .entry)) (now (lengths .entry)) (now (work .entry)) (now (bytes .exit)) (now (lengths .exit)) (now (work .exit)) ⌝ }
+{
+    let i = p as usize;
+    let start = i * room;
+    let stop = start + room;
+    let from = i * ROW;
+    let to = from + ROW;
+    let used = lengths[i];
+    lengths[i] = acts::land(
+        next,
+        node,
+        used,
+        &mut bytes[start..stop],
+        &mut work[from..to],
+    );
+}
+
+// What is left to do of a turn of site p, once it is seen that control does not just go on: whether the turn counts.
 pub fn turn(
     program: &[u8],
     nodes: usize,
+    came: Came,
     p: u8,
     n: u8,
     room: usize,
@@ -69,32 +99,18 @@ pub fn turn(
     lengths: &mut [usize],
     work: &mut [u8],
 ) -> bool
-    requires { ⌜ (p < n) × (n ≤ maxParties) × (n * room ≤ length (now bytes)) × (n ≤ length (now lengths)) × (n * areaSize ≤ length (now work)) × (maxParties ≤ length (now at)) × (maxParties ≤ length (now end)) × (nodes ≤ 1024) ⌝ }
-    ensures { λ r. ⌜ Turns (now (program .entry)) nodes p n room (now (inputs .entry)) (now (end .entry)) r (now (at .entry)) (now (bytes .entry)) (now (lengths .entry)) (now (work .entry)) (now (at .exit)) (now (bytes .exit)) (now (lengths .exit)) (now (work .exit)) ⌝ }
+    requires { ⌜ (p < n) × (n ≤ maxParties) × (n * room ≤ length (now bytes)) × (n ≤ length (now lengths)) × (n * rowSize ≤ length (now work)) × (maxParties ≤ length (now at)) × (maxParties ≤ length (now end)) × Fits came ⌝ }
+    ensures { λ r. ⌜ TurnsCame (now (program .entry)) nodes came p n room (now (inputs .entry)) (now (end .entry)) r (now (at .entry)) (now (bytes .entry)) (now (lengths .entry)) (now (work .entry)) (now (at .exit)) (now (bytes .exit)) (now (lengths .exit)) (now (work .exit)) ⌝ }
 {
-    let i = p as usize;
-    let from = i * AREA;
-    let to = from + AREA;
-    let used = lengths[i];
-    let Seat::Running(t) = seats::load_seat(&work[from..to]) else {
+    let Came::Did(t, y) = came else {
         return false;
     };
-    let start = i * room;
-    let stop = start + room;
-    match acts::step(
-        program,
-        nodes,
-        t,
-        Party { index: p },
-        used,
-        &mut bytes[start..stop],
-        &mut work[from..to],
-    ) {
-        Stepped::Landed(next) => {
-            lengths[i] = next;
+    match y {
+        Advanced::Moved(next) => {
+            landed(next, t.node, p, room, bytes, lengths, work);
             true
         }
-        Stepped::Asks(effect) => asked(
+        Advanced::Asks(effect) => asked(
             program,
             nodes,
             effect,

@@ -20,7 +20,7 @@ use Rattle.limits.specs.Limits.{maxNames}
 use Rattle.cells.specs.Cells.{width}
 use Rattle.area.specs.Levels.{tableSize, levelAt}
 use Rattle.table.specs.Table.{PlacesIn, nodeBy, Prepared}
-use Rattle.rules.specs.Lent.{areaSize}
+use Rattle.area.specs.Rows.{rowSize}
 use Rattle.area.proofs.LevelLaws.{names-fresh, zeros}
 use Rattle.area.proofs.MoveLaws.{part-back}
 
@@ -29,7 +29,7 @@ abbrev pub patched : List ℕ → List ℕ → List ℕ
 patched w ys = take tableSize w ++ (ys ++ drop 144 (drop tableSize w))
 
 -- zeros in place of them
-module _ (w ys : List ℕ) (long : areaSize ≤ length w) (e : ys ≡ replicate (length (take 144 (drop tableSize w))) 0) where
+module _ (w ys : List ℕ) (long : rowSize ≤ length w) (e : ys ≡ replicate (length (take 144 (drop tableSize w))) 0) where
   part-length : length (take 144 (drop tableSize w)) ≡ 144
   part-length = length-take-le 144 (drop tableSize w) (rw length-drop (omega arith))
 

@@ -2,7 +2,7 @@
 ghost use mathlib.Core.Path.{_≡_};
 ghost use Prim.Native.Nat.{_≤_};
 ghost use lib.ListN.{length};
-ghost use Rattle.rules.specs.Lent.{areaSize};
+ghost use Rattle.area.specs.Rows.{rowSize};
 ghost use Rattle.nodes.specs.Nodes.{jointNode};
 ghost use Rattle.table.specs.Table.{nodeBy, Prepared};
 use nodes::JointNode;
@@ -10,7 +10,7 @@ use nodes::Node;
 
 // An area at the start of a run: the places of the nodes, and no name bound in the first level, from which the others are copied.
 pub fn prepare(program: &[u8], nodes: usize, w: &mut [u8])
-    requires { ⌜ (nodes ≤ 1024) × (areaSize ≤ length (now w)) ⌝ }
+    requires { ⌜ (nodes ≤ 1024) × (rowSize ≤ length (now w)) ⌝ }
     ensures { λ _. ⌜ Prepared (now (program .entry)) nodes (now (w .exit)) ⌝ }
 {
     stretches::zero(&mut w[2048..2192]);
@@ -19,7 +19,7 @@ pub fn prepare(program: &[u8], nodes: usize, w: &mut [u8])
 
 // The node numbered k; past the last one READ, so that nobody has to show that there is one.
 pub fn node(program: &[u8], nodes: usize, w: &[u8], k: u16) -> Node
-    requires { ⌜ (nodes ≤ 1024) × (areaSize ≤ length (now w)) ⌝ }
+    requires { ⌜ (nodes ≤ 1024) × (rowSize ≤ length (now w)) ⌝ }
     ensures { λ r. ⌜ r ≡ nodeBy (now (program .entry)) nodes (now (w .entry)) k ⌝ }
 {
     let own = k as usize;

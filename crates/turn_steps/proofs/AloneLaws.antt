@@ -14,7 +14,7 @@ use lib.Seq.{take-nil, set-getD}
 use Rattle.records.specs.Events.{heldBack}
 use Rattle.rules.specs.Books.{Book, used}
 use Rattle.rules.specs.Moves.{Control}
-use Rattle.rules.specs.Lent.{areaSize}
+use Rattle.area.specs.Rows.{rowSize, row, areaOf, back}
 use Rattle.rules.specs.Single.{Setting}
 use Rattle.rules.specs.Joint.{Site, Sites, put, bookOf}
 use Rattle.rules.specs.declared.effects.Effect.{Effect}
@@ -30,9 +30,9 @@ use Rattle.area.specs.declared.stand.Stand.{Stand}
 use Rattle.acts.specs.Acts as Site
 use Rattle.acts.specs.Acts.{Took}
 use Rattle.site.specs.Own.{acted}
-use Rattle.meets.specs.Places.{row, areaOf, settingOf, InputsOf}
+use Rattle.meets.specs.Places.{settingOf, InputsOf}
 use Rattle.turn_steps.specs.Steps.{takenBy, ActsAlone}
-use Rattle.concludes.proofs.RowLaws.{back, row-length}
+use Rattle.area.proofs.RowLaws.{row-length}
 use Rattle.concludes.proofs.StandLaws.{stands-length, stands-long, stands-changed}
 use Rattle.turn_steps.proofs.InputLaws.{acted-stand}
 
@@ -64,9 +64,9 @@ taken-inside is a m effect input k e l h =
 
 -- ---- a site by itself
 module _ (effect : Effect) (t : Stand) (P room : ℕ) (is : List ℤ) (end at bytes lengths work : List ℕ) (input : Taken) (k u′ : ℕ) (ys ws : List ℕ) (place : P < length at)
-    (long : P * areaSize + areaSize ≤ length work) (area : length ws ≡ areaSize) (next : input ≡ headOf (take (getD end P 0 - getD at P 0) (drop (getD at P 0) is))) (takes : k ≡ takenBy effect input)
+    (long : P * rowSize + rowSize ≤ length work) (area : length ws ≡ rowSize) (next : input ≡ headOf (take (getD end P 0 - getD at P 0) (drop (getD at P 0) is))) (takes : k ≡ takenBy effect input)
     (act : Site.Acts effect input t (record { index = P }) (getD lengths P 0) (row room P bytes) (areaOf P work) u′ ys ws) where
-  pub alone-by : ActsAlone effect t P room is end at bytes lengths work (set at P (getD at P 0 + k)) (back room P bytes ys) (set lengths P u′) (back areaSize P work ws)
+  pub alone-by : ActsAlone effect t P room is end at bytes lengths work (set at P (getD at P 0 + k)) (back room P bytes ys) (set lengths P u′) (back rowSize P work ws)
   unfolding put
   alone-by =
       record {
@@ -93,7 +93,7 @@ module _ (effect : Effect) (t : Stand) (P room : ℕ) (is : List ℤ) (end at by
       }
 
   -- it took no input
-  pub alone-none : k ≡ 0 → ActsAlone effect t P room is end at bytes lengths work at (back room P bytes ys) (set lengths P u′) (back areaSize P work ws)
+  pub alone-none : k ≡ 0 → ActsAlone effect t P room is end at bytes lengths work at (back room P bytes ys) (set lengths P u′) (back rowSize P work ws)
   alone-none z =
       let same : set at P (getD at P 0 + k) ≡ at = rw (z, add-zero) (set-getD at P 0) in
-      subst (λ (x : List ℕ). ActsAlone effect t P room is end at bytes lengths work x (back room P bytes ys) (set lengths P u′) (back areaSize P work ws)) same alone-by
+      subst (λ (x : List ℕ). ActsAlone effect t P room is end at bytes lengths work x (back room P bytes ys) (set lengths P u′) (back rowSize P work ws)) same alone-by

@@ -16,11 +16,12 @@ use Rattle.rules.specs.declared.effects.Effect.the-variants.{Refuse, Goes, Read
 use Rattle.rules.specs.declared.effects.Effect.the-variants as Effect′
 use Rattle.inputs.specs.declared.Taken.{Taken}
 use Rattle.inputs.specs.declared.Taken.the-variants.{Input, UsedUp}
+use Rattle.area.specs.Rows.{areaOf}
 use Rattle.area.specs.Levels.{controlOf}
 use Rattle.area.specs.declared.stand.Stand.{Stand}
 use Rattle.site.specs.Own.{acted, Alone}
 use Rattle.site.specs.declared.own.Own.the-variants.{Acts}
-use Rattle.meets.specs.Places.{areaOf, settingOf, Given, Stands, InputsStand}
+use Rattle.meets.specs.Places.{settingOf, Given, Stands, InputsStand}
 
 -- whether a turn counts, as a number
 abbrev pub once : Bool → ℕ

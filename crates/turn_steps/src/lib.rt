@@ -4,10 +4,10 @@ ghost use mathlib.Core.Bool.{cond};
 ghost use Prim.Native.Nat.{_*_, _+_, _≤_, _<_};
 ghost use lib.ListN.{length};
 ghost use Rattle.limits.specs.Limits.{maxParties, maxFrames};
-ghost use Rattle.rules.specs.Lent.{areaSize};
+ghost use Rattle.area.specs.Rows.{rowSize};
 ghost use Rattle.advance.specs.Advances.{Asked};
 ghost use Rattle.turn_steps.specs.Steps.{once, takenBy, Meets, ActsAlone};
-use area::stand::AREA;
+use area::stand::ROW;
 use area::stand::Stand;
 use concludes::Outcome;
 use inputs::Taken;
@@ -42,7 +42,7 @@ pub fn meet(
     lengths: &mut [usize],
     work: &mut [u8],
 ) -> bool
-    requires { ⌜ (n ≤ maxParties) × (n * room ≤ length (now bytes)) × (n ≤ length (now lengths)) × (n * areaSize ≤ length (now work)) ⌝ }
+    requires { ⌜ (n ≤ maxParties) × (n * room ≤ length (now bytes)) × (n ≤ length (now lengths)) × (n * rowSize ≤ length (now work)) ⌝ }
     ensures { λ r. ⌜ Meets (now (program .entry)) nodes e m mt n room r (now (bytes .entry)) (now (lengths .entry)) (now (work .entry)) (now (bytes .exit)) (now (lengths .exit)) (now (work .exit)) ⌝ }
 {
     let Gathered::All(offer) = meets::present::gather(program, nodes, e, m, n, room, lengths, work)
@@ -96,15 +96,15 @@ pub fn act_alone(
     lengths: &mut [usize],
     work: &mut [u8],
 )
-    requires { ⌜ (t .depth .frames ≤ maxFrames) × (p * room + room ≤ length (now bytes)) × (p < length (now lengths)) × (p * areaSize + areaSize ≤ length (now work)) × (p < length (now at)) × (p < length (now end)) × Asked effect ⌝ }
+    requires { ⌜ (t .depth .frames ≤ maxFrames) × (p * room + room ≤ length (now bytes)) × (p < length (now lengths)) × (p * rowSize + rowSize ≤ length (now work)) × (p < length (now at)) × (p < length (now end)) × Asked effect ⌝ }
     ensures { λ _. ⌜ ActsAlone effect t p room (now (inputs .entry)) (now (end .entry)) (now (at .entry)) (now (bytes .entry)) (now (lengths .entry)) (now (work .entry)) (now (at .exit)) (now (bytes .exit)) (now (lengths .exit)) (now (work .exit)) ⌝ }
 {
     let i = p as usize;
     let input = inputs::next_input(i, inputs, at, end);
     let start = i * room;
     let stop = start + room;
-    let from = i * AREA;
-    let to = from + AREA;
+    let from = i * ROW;
+    let to = from + ROW;
     let used = lengths[i];
     lengths[i] = acts::act(
         effect,

@@ -5,7 +5,7 @@ use native.Mathlib.Omega.{arith}
 use borrow.Author.Needs.{needs}
 use lib.ListN.{length}
 use Rattle.parties.proofs.LoopLaws.{loop-falls}
-use Rattle.rules.specs.Lent.{areaSize}
+use Rattle.area.specs.Rows.{rowSize}
 use Rattle.invariants.proofs.RowLaws.{rows}
 use Rattle.concludes.proofs.ConcludeLaws.{GoingAt, going-none, going-more, going-all}
 use Rattle.concludes.proofs.conclude.Statement.{statement}
@@ -28,7 +28,7 @@ conclude-one-requires c κs = let a = c .before .before .before .before .before 
     let l = c .before .before .before .before .loop in (
       omega (arith, rows (l .p) (a .n) (a .room) (c .before .before .before .loop-test .taken), l .inv .0),
       omega (arith, l .inv .1),
-      omega (arith, rows (l .p) (a .n) areaSize (c .before .before .before .loop-test .taken), l .inv .2),
+      omega (arith, rows (l .p) (a .n) rowSize (c .before .before .before .loop-test .taken), l .inv .2),
     )
 
 add-next : tie.Need-add-next Inv-loop μ-loop

@@ -2,11 +2,10 @@
 use mathlib.Core.Path.{sym, _∙_, subst}
 use native.Mathlib.Omega.{arith}
 use borrow.Author.Needs.{needs}
-use Rattle.rules.specs.Lent.{areaSize}
+use Rattle.area.specs.Rows.{rowSize, areaOf}
 use Rattle.seats.specs.Seats.{DeepSeat}
 use Rattle.seats.proofs.SeatLaws.{seat-deep}
-use Rattle.meets.specs.Places.{areaOf}
-use Rattle.concludes.proofs.RowLaws.{row-length}
+use Rattle.area.proofs.RowLaws.{row-length}
 use Rattle.concludes.proofs.ConcludeLaws.{member-over, member-runs}
 use Rattle.concludes.proofs.conclude_one.Statement.{statement}
 use Rattle.concludes.proofs.conclude_one.Tie as tie
@@ -71,7 +70,7 @@ part-take-part-end-2 c = search needs
 
 take-part-requires : tie.Need-take-part-requires
 take-part-requires c κs = let a = c .before .before .before .before .before .before .before .before .before .before .before .before .args in
-    (subst DeepSeat (sym (c .before .before .before .before .before .before .load-seat .ensures) ∙ c .before .before .before .before .t .given .1) (seat-deep (areaOf (a .p) (a .work .now))), omega (arith, row-length areaSize (a .p) (a .work .now) (c .before .before .before .before .before .before .before .before .before .before .before .before .pre .2)))
+    (subst DeepSeat (sym (c .before .before .before .before .before .before .load-seat .ensures) ∙ c .before .before .before .before .t .given .1) (seat-deep (areaOf (a .p) (a .work .now))), omega (arith, row-length rowSize (a .p) (a .work .now) (c .before .before .before .before .before .before .before .before .before .before .before .before .pre .2)))
 
 mul-lengths : tie.Need-mul-lengths
 mul-lengths c = search needs
@@ -91,7 +90,7 @@ same-length-4 c = search needs
 returns-2 : tie.Need-returns-2
 returns-2 c = let a = c .before .before .before .before .before .before .before .before .before .before .before .before .before .before .before .before .before .args in
     member-runs (a .outcome) (a .p) (a .room) (a .bytes .now) (a .lengths .now) (a .work .now) (c .before .before .before .before .before .before .before .before .before .before .before .load-seat .result) (c .before .before .before .before .before .before .before .before .before .before .before .load-seat .ensures) _ (c .before .before .before .before .before .before .before .before .before .t .given .1) (c .before .before .before .before .take-part .result) _ _
-    (c .before .before .before .before .take-part .kept .1 .1 .1 .1 .1 .0 ∙ row-length areaSize (a .p) (a .work .now) (c .before .before .before .before .before .before .before .before .before .before .before .before .before .before .before .before .before .pre .2)) (c .before .before .before .before .before .before .before .before .before .before .before .before .before .before .before .before .before .pre .2) (c .before .before .before .before .take-part .ensures)
+    (c .before .before .before .before .take-part .kept .1 .1 .1 .1 .1 .0 ∙ row-length rowSize (a .p) (a .work .now) (c .before .before .before .before .before .before .before .before .before .before .before .before .before .before .before .before .before .pre .2)) (c .before .before .before .before .before .before .before .before .before .before .before .before .before .before .before .before .before .pre .2) (c .before .before .before .before .take-part .ensures)
 
 pub conclude-one-spec : {M : Type 1} → statement M
 conclude-one-spec =

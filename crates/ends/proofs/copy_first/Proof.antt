@@ -5,7 +5,7 @@ use Prim.Native.Nat.{_+_, _-_, _*_, _≤_, _<_}
 use native.Mathlib.Omega.{arith}
 use borrow.Author.Needs.{needs}
 use lib.ListN.{length}
-use Rattle.rules.specs.Lent.{areaSize}
+use Rattle.area.specs.Rows.{rowSize}
 use Rattle.ends.specs.Ends.{AllFirst}
 use Rattle.ends.proofs.EndsLaws.{first-one, first-more, first-all}
 use Rattle.ends.proofs.copy_first.Statement.{statement}
@@ -40,7 +40,7 @@ loop-again c =
     let a = c .before .before .before .before .before .before .before .args in
     let l = c .before .before .before .before .before .loop in
     let copy = c .before .before .copy-within in
-    let long : l .p * areaSize + areaSize ≤ length (l .work) = omega arith in
+    let long : l .p * rowSize + rowSize ≤ length (l .work) = omega arith in
     (omega arith, copy .kept .0 ∙ l .inv .1, rw (copy .ensures) (first-more (a .work .now) (l .p) (l .work) (l .inv .0) long (l .inv .2)))
 
 same-length : tie.Need-same-length Inv-loop μ-loop

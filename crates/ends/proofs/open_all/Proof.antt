@@ -4,7 +4,7 @@ use native.Mathlib.Omega.{arith}
 use borrow.Author.Needs.{needs}
 use lib.ListN.{length, take}
 use lib.Seq.{length-take-le}
-use Rattle.rules.specs.Lent.{areaSize}
+use Rattle.area.specs.Rows.{rowSize}
 use Rattle.ends.proofs.EndsLaws.{opens-none, opens-all}
 use Rattle.ends.proofs.open_all.Statement.{statement}
 use Rattle.ends.proofs.open_all.Tie as tie
@@ -18,8 +18,8 @@ slice-relend-prefix-open-one : tie.Need-slice-relend-prefix-open-one
 slice-relend-prefix-open-one c = search needs
 
 -- the first area is lent whole
-lent : (c : tie.After-open-one-arg) → length (take areaSize (c .before .before .before .before .args .work .now)) ≡ areaSize
-lent c = length-take-le areaSize (c .before .before .before .before .args .work .now) (omega arith)
+lent : (c : tie.After-open-one-arg) → length (take rowSize (c .before .before .before .before .args .work .now)) ≡ rowSize
+lent c = length-take-le rowSize (c .before .before .before .before .args .work .now) (omega arith)
 
 slice-aggregate-open-one : tie.Need-slice-aggregate-open-one
 slice-aggregate-open-one c = sym (lent c)

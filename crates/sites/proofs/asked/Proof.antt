@@ -1,14 +1,12 @@
 -- `sites::asked` meets its contract. Assumes nothing.
-use mathlib.Core.Path.{refl, subst}
+use mathlib.Core.Path.{subst}
 use native.Mathlib.Omega.{arith}
 use lib.ListN.{getD}
-use Rattle.rules.specs.Lent.{areaSize}
+use Rattle.area.specs.Rows.{rowSize, areaOf}
 use Rattle.invariants.proofs.RowLaws.{rows}
-use Rattle.seats.specs.declared.Seat.the-variants.{Running}
 use Rattle.site.specs.Own.{AskedOwn}
 use Rattle.site.specs.declared.own.Own.{Own}
 use Rattle.site.proofs.OwnLaws.{owned}
-use Rattle.meets.specs.Places.{areaOf}
 use Rattle.sites.proofs.TurnLaws.{turn-meets, turn-acts}
 use borrow.Author.Needs.{needs}
 use Rattle.sites.proofs.asked.Statement.{statement}
@@ -38,7 +36,7 @@ act-alone-requires c κs = let a = c .before .before .before .before .before .be
       p .7,
       omega (arith, rows (a .p) (a .n) (a .room) (p .0), p .2),
       omega (arith, p .0, p .3),
-      omega (arith, rows (a .p) (a .n) areaSize (p .0), p .4),
+      omega (arith, rows (a .p) (a .n) rowSize (p .0), p .4),
       omega (arith, p .0, p .1, p .5),
       omega (arith, p .0, p .1, p .6),
       subst (λ (x : Own). AskedOwn x) (c .before .before .before .before .before .own .given .1) (c .before .before .before .before .before .before .before .weighed .ensures .asked (p .8)),
@@ -59,7 +57,7 @@ returns c = let a = c .before .before .before .before .before .before .before .b
     let k = c .before .before .before .before .before .before .meet in
     record {
       comes = λ sits is.
-          turn-meets (a .program .now) (a .nodes) (a .p) (a .n) (a .room) (a .inputs .now) (a .end .now) (a .at .now) (a .bytes .now) (a .lengths .now) (a .work .now) (Running (a .t)) sits (a .t) refl (w .result)
+          turn-meets (a .program .now) (a .nodes) (a .p) (a .n) (a .room) (a .inputs .now) (a .end .now) (a .at .now) (a .bytes .now) (a .lengths .now) (a .work .now) (a .t) sits (w .result)
           (owned (a .program .now) (a .nodes) (record { index = a .p }) (a .t) (a .room) (getD (a .lengths .now) (a .p) 0) (areaOf (a .p) (a .work .now)) (a .effect) is (w .result) (w .ensures)) _ _ (k .result) _ _ _
           (c .before .before .before .before .before .before .before .before .before .before .before .mt .given .1) (k .ensures);
     }
@@ -81,7 +79,7 @@ returns-2 c = let a = c .before .before .before .before .before .before .before 
     let w = c .before .before .before .before .before .before .before .before .before .before .before .before .before .before .before .before .weighed in
     record {
       comes = λ sits is.
-          turn-acts (a .program .now) (a .nodes) (a .p) (a .n) (a .room) (a .inputs .now) (a .end .now) (a .at .now) (a .bytes .now) (a .lengths .now) (a .work .now) (Running (a .t)) sits (a .t) refl (w .result)
+          turn-acts (a .program .now) (a .nodes) (a .p) (a .n) (a .room) (a .inputs .now) (a .end .now) (a .at .now) (a .bytes .now) (a .lengths .now) (a .work .now) (a .t) sits (w .result)
           (owned (a .program .now) (a .nodes) (record { index = a .p }) (a .t) (a .room) (getD (a .lengths .now) (a .p) 0) (areaOf (a .p) (a .work .now)) (a .effect) is (w .result) (w .ensures)) _ _ _ _ _
           (c .before .before .before .before .before .before .before .before .before .before .before .before .before .before .own .given .1) (c .before .before .before .before .before .before .before .before .act-alone .ensures);
     }

@@ -3,9 +3,9 @@ use mathlib.Core.Path.{refl, sym, ap, _∙_}
 use Prim.Native.Nat.{_-_}
 use native.Mathlib.Omega.{arith}
 use lib.ListN.{getD}
-use Rattle.rules.specs.Lent.{areaSize}
+use Rattle.area.specs.Rows.{rowSize}
 use Rattle.turn_steps.specs.Steps.{once}
-use Rattle.concludes.proofs.RowLaws.{row-length}
+use Rattle.area.proofs.RowLaws.{row-length}
 use Rattle.turn_steps.proofs.AloneLaws.{taken-inside, alone-by, alone-none}
 use borrow.Author.Needs.{needs}
 use Rattle.turn_steps.proofs.act_alone.Statement.{statement}
@@ -98,7 +98,7 @@ same-length-4 c = c .before .before .before .before .work .given .1
 returns : tie.Need-returns
 returns c = let a = c .before .before .before .before .before .before .before .before .before .before .before .before .before .before .before .before .before .before .args in
     alone-by (a .effect) (a .t) (a .p) (a .room) (a .inputs .now) (a .end .now) (a .at .now) (a .bytes .now) (a .lengths .now) (a .work .now) (c .before .before .before .before .before .before .before .before .before .before .before .next-input .result) 1 (c .before .before .before .before .before .before .before .act .result) _ _
-    (c .before .before .before .before .before .before .before .before .before .before .before .before .before .before .before .before .before .before .pre .4) (c .before .before .before .before .before .before .before .before .before .before .before .before .before .before .before .before .before .before .pre .3) (c .before .before .before .before .before .before .before .act .kept .1 .1 .1 .1 .1 .1 .0 ∙ row-length areaSize (a .p) (a .work .now) (c .before .before .before .before .before .before .before .before .before .before .before .before .before .before .before .before .before .before .pre .3)) (c .before .before .before .before .before .before .before .before .before .before .before .next-input .ensures)
+    (c .before .before .before .before .before .before .before .before .before .before .before .before .before .before .before .before .before .before .pre .4) (c .before .before .before .before .before .before .before .before .before .before .before .before .before .before .before .before .before .before .pre .3) (c .before .before .before .before .before .before .before .act .kept .1 .1 .1 .1 .1 .1 .0 ∙ row-length rowSize (a .p) (a .work .now) (c .before .before .before .before .before .before .before .before .before .before .before .before .before .before .before .before .before .before .pre .3)) (c .before .before .before .before .before .before .before .before .before .before .before .next-input .ensures)
     (sym (ap once (c .before .if1 .taken)) ∙ c .before .before .takes-input .ensures) (c .before .before .before .before .before .before .before .act .ensures)
 
 same-length-5 : tie.Need-same-length-5
@@ -116,7 +116,7 @@ same-length-8 c = c .before .before .before .work .given .1
 returns-2 : tie.Need-returns-2
 returns-2 c = let a = c .before .before .before .before .before .before .before .before .before .before .before .before .before .before .before .before .before .args in
     alone-none (a .effect) (a .t) (a .p) (a .room) (a .inputs .now) (a .end .now) (a .at .now) (a .bytes .now) (a .lengths .now) (a .work .now) (c .before .before .before .before .before .before .before .before .before .before .next-input .result) 0 (c .before .before .before .before .before .before .act .result) _ _
-    (c .before .before .before .before .before .before .before .before .before .before .before .before .before .before .before .before .before .pre .4) (c .before .before .before .before .before .before .before .before .before .before .before .before .before .before .before .before .before .pre .3) (c .before .before .before .before .before .before .act .kept .1 .1 .1 .1 .1 .1 .0 ∙ row-length areaSize (a .p) (a .work .now) (c .before .before .before .before .before .before .before .before .before .before .before .before .before .before .before .before .before .pre .3)) (c .before .before .before .before .before .before .before .before .before .before .next-input .ensures)
+    (c .before .before .before .before .before .before .before .before .before .before .before .before .before .before .before .before .before .pre .4) (c .before .before .before .before .before .before .before .before .before .before .before .before .before .before .before .before .before .pre .3) (c .before .before .before .before .before .before .act .kept .1 .1 .1 .1 .1 .1 .0 ∙ row-length rowSize (a .p) (a .work .now) (c .before .before .before .before .before .before .before .before .before .before .before .before .before .before .before .before .before .pre .3)) (c .before .before .before .before .before .before .before .before .before .before .next-input .ensures)
     (sym (ap once (c .if1 .left)) ∙ c .before .takes-input .ensures) (c .before .before .before .before .before .before .act .ensures) refl
 
 pub act-alone-spec : {M : Type 1} → statement M

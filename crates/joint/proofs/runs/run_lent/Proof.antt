@@ -43,7 +43,7 @@ returns-3 c = let a = c .before .before .before .before .before .before .before 
 drive-requires : tie.Need-drive-requires
 drive-requires c κs = let p = c .before .before .before .before .before .before .before .before .before .before .before .before .pre in
     let g = bounds _ _ _ (p .0) in
-    (g .few-parties, g .some-node, g .few-nodes, rooms-within _ _, c .before .before .before .before .if2 .left, c .before .before .before .if3 .left, p .1, p .2, p .3)
+    (g .few-parties, g .some-node, g .few-nodes, rooms-within _ _, c .before .before .before .before .if2 .left, omega (arith, c .before .before .before .if3 .left), p .1, p .2, p .3)
 
 zero-requires : tie.Need-zero-requires
 zero-requires c κs = search needs

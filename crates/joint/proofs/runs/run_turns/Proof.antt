@@ -1,15 +1,22 @@
 -- `joint::runs::run_turns` meets its contract. Assumes nothing.
-use mathlib.Core.Path.{_≡_, refl, _∙_}
-use Prim.Native.Nat.{_-_}
+use mathlib.Core.Path.{_≡_, refl, sym, _∙_}
+use Prim.Native.Nat.{_-_, _*_, _≤_}
 use native.Mathlib.Omega.{arith}
 use lib.ListN.{length}
+use Rattle.area.specs.Rows.{rowSize}
+use Rattle.sites.proofs.TurnLaws.{came-fits}
 use borrow.Author.Needs.{needs}
-use Rattle.joint.proofs.TurnLaws.{Going, going-none, going-more, going-all}
+use Rattle.joint.proofs.TurnLaws.{Going, going-none, going-stride, going-all, rows-fit}
 use Rattle.joint.proofs.runs.run_turns.Statement.{statement}
 use Rattle.joint.proofs.runs.run_turns.Tie as tie
+use Rattle.joint.proofs.runs.run_turns.Reads as reads
+use Rattle.joint.proofs.runs.run_turns.Lts as lts
+use Rattle.advance.proofs.strides.strides.Reads as strides-reads
+use Rattle.joint.proofs.runs.once.Reads as once-reads
+use Rattle.sites.proofs.turn.Reads as turn-reads
 
 abbrev Inv-loop : tie.InvT-loop
-Inv-loop program nodes turns n room inputs at₀ end bytes₀ lengths₀ work₀ count₀ j₀ at bytes lengths work count j =
+Inv-loop program nodes turns n room inputs at₀ end bytes₀ lengths₀ work₀ nowhere count₀ j₀ at bytes lengths work count j =
     Going program nodes turns n room inputs end at₀ bytes₀ lengths₀ work₀ j count at bytes lengths work
     × (length at ≡ length at₀)
     × (length bytes ≡ length bytes₀)
@@ -17,36 +24,66 @@ Inv-loop program nodes turns n room inputs at₀ end bytes₀ lengths₀ work₀
     × (length work ≡ length work₀)
 
 abbrev μ-loop : tie.MeasureT-loop
-μ-loop program nodes turns n room inputs at₀ end bytes₀ lengths₀ work₀ count₀ j₀ at bytes lengths work count j =
+μ-loop program nodes turns n room inputs at₀ end bytes₀ lengths₀ work₀ nowhere count₀ j₀ at bytes lengths work count j =
     length turns - j
 
 loop-holds : tie.Need-loop-holds Inv-loop μ-loop
 loop-holds c = let a = c .before .before .before .before .before .before .before .args in (going-none (a .program .now) (a .nodes) (a .turns .now) (a .n) (a .room) (a .inputs .now) (a .end .now) (a .at .now) (a .bytes .now) (a .lengths .now) (a .work .now), refl, refl, refl, refl)
 
-shared-slice-read-turn : tie.Need-shared-slice-read-turn Inv-loop μ-loop
-shared-slice-read-turn c = search needs
+sub-most : tie.Need-sub-most Inv-loop μ-loop
+sub-most c = search needs
+
+cast-most : tie.Need-cast-most Inv-loop μ-loop
+cast-most c = omega (arith, c .before .before .before .before .before .before .before .before .before .pre .0)
+
+strides-requires : tie.Need-strides-requires Inv-loop μ-loop
+strides-requires c κs = let a = c .before .before .before .before .before .before .before .before .before .before .args in
+    let p = c .before .before .before .before .before .before .before .before .before .before .pre in
+    (omega (arith, c .before .loop-test .taken), λ h. omega (arith, c .before .loop-test .taken), omega (arith, c .before .loop-test .taken, p .0), omega arith, rows-fit (a .n) (a .turns .now) _ (p .1) (omega (arith, p .5, c .before .before .loop .inv .4)), p .8)
+
+cast-j : tie.Need-cast-j Inv-loop μ-loop
+cast-j c = search needs
+
+add-j : tie.Need-add-j Inv-loop μ-loop
+add-j c = omega (arith, c .before .before .before .strides .ensures .0, c .before .before .before .before .before .loop-test .taken, c .before .before .before .before .before .before .before .before .before .before .before .before .before .before .pre .0)
+
+shared-slice-read-p : tie.Need-shared-slice-read-p Inv-loop μ-loop
+shared-slice-read-p c = omega (arith, c .before .before .before .before .strides .ensures .0, c .before .before .before .before .before .before .loop-test .taken)
 
 turn-requires : tie.Need-turn-requires Inv-loop μ-loop
-turn-requires c κs = let p = c .before .before .before .before .before .before .before .before .before .before .before .before .before .before .pre in
-    let v = c .before .before .before .before .before .before .loop .inv in
-    (p .1 (c .before .before .before .before .before .before .loop .j) (c .before .before .before .before .before .loop-test .taken), p .2, omega (arith, p .3, v .2), omega (arith, p .4, v .3), omega (arith, p .5, v .4), omega (arith, p .6, v .1), p .7, p .8)
+turn-requires c κs = let p = c .before .before .before .before .before .before .before .before .before .before .before .before .before .before .before .before .before .before .before .pre in
+    let v = c .before .before .before .before .before .before .before .before .before .before .before .loop .inv in
+    let r = c .before .before .before .before .before .before .before .before .strides in
+    (p .1 _ (omega (arith, r .ensures .0, c .before .before .before .before .before .before .before .before .before .before .loop-test .taken)), p .2, omega (arith, p .3, v .2), omega (arith, p .4, v .3), omega (arith, p .5, v .4, c .before .before .before .before .before .before .before .work .given), omega (arith, p .6, v .1), p .7, came-fits _ _ _ _ (r .ensures .1) (r .ensures .2) _ (r .ensures .4))
 
 once-requires : tie.Need-once-requires Inv-loop μ-loop
 once-requires c κs = search needs
 
 add-count : tie.Need-add-count Inv-loop μ-loop
-add-count c = omega (arith, c .once .ensures .1, c .before .before .before .before .before .before .before .before .before .before .before .before .before .before .before .before .loop .inv .0 .few, c .before .before .before .before .before .before .before .before .before .before .before .before .before .before .before .loop-test .taken, c .before .before .before .before .before .before .before .before .before .before .before .before .before .before .before .before .before .before .before .before .before .before .before .before .pre .0)
+add-count c = omega (arith, c .before .once .ensures .1, c .before .before .before .before .before .before .before .before .before .before .before .before .before .before .before .before .before .before .before .strides .ensures .0, c .before .before .before .before .before .before .before .before .before .before .before .before .before .before .before .before .before .before .before .before .before .before .before .before .before .before .before .before .before .before .pre .0)
 
-add-j : tie.Need-add-j Inv-loop μ-loop
-add-j c = omega (arith, c .before .before .before .before .before .before .before .before .before .before .before .before .before .before .before .loop-test .taken, c .before .before .before .before .before .before .before .before .before .before .before .before .before .before .before .before .before .before .before .before .before .before .before .before .pre .0)
+add-count-2 : tie.Need-add-count-2 Inv-loop μ-loop
+add-count-2 c = omega (arith, c .before .once .ensures .1, c .before .before .before .before .before .before .before .before .before .before .before .before .before .before .before .before .before .before .before .strides .ensures .0, c .before .before .before .before .before .before .before .before .before .before .before .before .before .before .before .before .before .before .before .before .before .before .loop .inv .0 .few, c .before .before .before .before .before .before .before .before .before .before .before .before .before .before .before .before .before .before .before .before .before .loop-test .taken, c .before .before .before .before .before .before .before .before .before .before .before .before .before .before .before .before .before .before .before .before .before .before .before .before .before .before .before .before .before .before .pre .0)
+
+add-j-2 : tie.Need-add-j-2 Inv-loop μ-loop
+add-j-2 c = omega (arith, c .before .before .before .before .before .before .before .before .before .before .before .before .before .before .before .before .before .before .before .strides .ensures .0, c .before .before .before .before .before .before .before .before .before .before .before .before .before .before .before .before .before .before .before .before .before .loop-test .taken, c .before .before .before .before .before .before .before .before .before .before .before .before .before .before .before .before .before .before .before .before .before .before .before .before .before .before .before .before .before .before .pre .0)
 
 loop-less : tie.Need-loop-less Inv-loop μ-loop
-loop-less c = omega (arith, c .before .before .before .before .before .before .before .before .before .before .before .before .before .before .before .loop-test .taken)
+loop-less c = omega (arith, c .before .before .before .before .before .before .before .before .before .before .before .before .before .before .before .before .before .before .before .strides .ensures .0, c .before .before .before .before .before .before .before .before .before .before .before .before .before .before .before .before .before .before .before .before .before .loop-test .taken)
 
 loop-again : tie.Need-loop-again Inv-loop μ-loop
-loop-again c = let a = c .before .before .before .before .before .before .before .before .before .before .before .before .before .before .before .before .before .before .before .before .before .before .before .before .args in
-    let l = c .before .before .before .before .before .before .before .before .before .before .before .before .before .before .before .before .loop in
-    (going-more (a .program .now) (a .nodes) (a .turns .now) (a .n) (a .room) (a .inputs .now) (a .end .now) (a .at .now) (a .bytes .now) (a .lengths .now) (a .work .now) (l .j) (l .count) (l .at) (l .bytes) (l .lengths) (l .work) (l .inv .0) _ _ _ _ _ _ (c .before .before .before .before .before .before .before .before .before .before .before .before .before .before .before .before .before .before .before .before .before .before .before .before .pre .1) (c .before .before .before .before .before .before .before .before .before .before .before .before .before .before .before .loop-test .taken) (c .once .ensures .0) (c .before .before .before .before .before .before .before .before .before .turn .ensures), c .before .before .before .before .before .before .before .before .before .turn .kept .1 .1 .1 .1 .1 .1 .0 ∙ l .inv .1, c .before .before .before .before .before .before .before .before .before .turn .kept .1 .1 .1 .1 .1 .1 .1 .1 .0 ∙ l .inv .2, c .before .before .before .before .before .before .before .before .before .turn .kept .1 .1 .1 .1 .1 .1 .1 .1 .1 .0 ∙ l .inv .3, c .before .before .before .before .before .before .before .before .before .turn .kept .1 .1 .1 .1 .1 .1 .1 .1 .1 .1 .0 ∙ l .inv .4)
+loop-again c = let a = c .before .before .before .before .before .before .before .before .before .before .before .before .before .before .before .before .before .before .before .before .before .before .before .before .before .before .before .before .before .before .args in
+    let p = c .before .before .before .before .before .before .before .before .before .before .before .before .before .before .before .before .before .before .before .before .before .before .before .before .before .before .before .before .before .before .pre in
+    let l = c .before .before .before .before .before .before .before .before .before .before .before .before .before .before .before .before .before .before .before .before .before .before .loop in
+    let r = c .before .before .before .before .before .before .before .before .before .before .before .before .before .before .before .before .before .before .before .strides in
+    let u = c .before .before .before .before .before .before .before .before .before .before .turn in (
+      going-stride (a .program .now) (a .nodes) (a .turns .now) (a .n) (a .room) (a .inputs .now) (a .end .now) (a .at .now) (a .bytes .now) (a .lengths .now) (a .work .now) (l .j) (l .count) (l .at) (l .bytes) (l .lengths) (l .work) (l .inv .0)
+          (p .1) (omega (arith, p .5, l .inv .4)) (omega (arith, p .2, p .6, l .inv .1)) _ _ (r .result) _ (r .ensures) (omega (arith, c .before .before .before .before .before .before .before .before .before .before .before .before .before .before .before .before .before .before .before .before .before .loop-test .taken)) (u .result) (c .before .once .result) _ _ _ _ (c .before .once .ensures .0) (u .ensures),
+      c .before .before .before .before .before .before .before .before .before .at .given ∙ l .inv .1,
+      c .before .before .before .before .before .before .before .bytes .given ∙ l .inv .2,
+      c .before .before .before .before .before .lengths .given ∙ l .inv .3,
+      c .before .before .before .work2 .given ∙ c .before .before .before .before .before .before .before .before .before .before .before .before .before .before .before .before .before .before .work .given ∙ l .inv .4,
+    )
 
 same-length : tie.Need-same-length Inv-loop μ-loop
 same-length c = c .before .loop .inv .1
@@ -72,11 +109,17 @@ run-turns-spec =
     Inv-loop
     μ-loop
     loop-holds
-    shared-slice-read-turn
+    sub-most
+    cast-most
+    strides-requires
+    cast-j
+    add-j
+    shared-slice-read-p
     turn-requires
     once-requires
     add-count
-    add-j
+    add-count-2
+    add-j-2
     loop-less
     loop-again
     same-length

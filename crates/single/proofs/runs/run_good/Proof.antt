@@ -3,9 +3,11 @@ use mathlib.Core.Path.{refl, sym, ap, _∙_}
 use Prim.Native.Nat.{ℕ}
 use native.Mathlib.Omega.{arith}
 use lib.ListN.{replicate}
+use lib.Seq.{length-take-le}
 use borrow.Author.Needs.{needs}
 use Rattle.rules.specs.Lent.{Lent, roomOf}
 use Rattle.rules.specs.Calls.{singleOf, singleCall}
+use Rattle.area.specs.Rows.{rowSize}
 use Rattle.invariants.proofs.LeftLaws.{rooms-within}
 use Rattle.inputs.proofs.InputLaws.{counts-fit-is}
 use Rattle.ledger.proofs.LentLaws.{bounds, short-room, short-places, short-work, enough, fit-parts}
@@ -38,11 +40,17 @@ returns-3 c = let a = c .before .before .before .before .before .before .before 
     let L : Lent = lent (a .program .now) (a .counts .now) (a .inputs .now) (a .bytes .now) (a .lengths .now) (a .work .now) in
     call-short (singleOf L (a .budget)) L (a .n) (a .nodes) (c .before .before .before .before .before .before .before .before .before .before .pre) (sym (counts-fit-is (a .n) L) ∙ sym (c .before .before .before .before .counts-fit .ensures) ∙ c .before .before .before .if1 .taken) refl (short-work (a .n) 1 L (c .before .before .if2 .left) (c .before .if3 .left) (c .if4 .taken))
 
+slice-relend-prefix-drive : tie.Need-slice-relend-prefix-drive
+slice-relend-prefix-drive c = omega (arith, c .before .before .if4 .left)
+
+slice-aggregate-drive : tie.Need-slice-aggregate-drive
+slice-aggregate-drive c = sym (length-take-le rowSize (c .before .before .before .before .before .before .before .before .before .before .before .before .before .args .work .now) (omega (arith, c .before .before .before .if4 .left)))
+
 drive-requires : tie.Need-drive-requires
 drive-requires c κs = let a = c .before .before .before .before .before .before .before .before .before .before .before .before .before .args in
     let g = bounds _ _ _ (c .before .before .before .before .before .before .before .before .before .before .before .before .before .pre) in
     let f = fit-parts _ _ _ _ (sym (c .before .before .before .before .before .before .before .counts-fit .ensures) ∙ c .before .before .before .before .before .before .if1 .taken) in
-    (g .few-parties, g .some-node, g .few-nodes, rooms-within _ _, c .before .before .before .before .if3 .left, c .before .before .before .if4 .left, f .0, f .1)
+    (g .few-parties, g .some-node, g .few-nodes, rooms-within _ _, c .before .before .before .before .if3 .left, length-take-le rowSize (a .work .now) (omega (arith, c .before .before .before .if4 .left)), f .0, f .1)
 
 zero-requires : tie.Need-zero-requires
 zero-requires c κs = search needs
@@ -60,7 +68,7 @@ returns-4 : tie.Need-returns-4
 unfolding roomOf
 returns-4 c = let a = c .before .before .before .before .before .before .before .before .before .before .before .before .before .before .before .before .before .before .before .before .before .before .before .before .args in
     let L : Lent = lent (a .program .now) (a .counts .now) (a .inputs .now) (a .bytes .now) (a .lengths .now) (a .work .now) in
-    call-runs L (a .n) _ _ _ (c .before .before .zero .ensures ∙ ap (λ (i : ℕ). replicate i 0) (c .before .before .before .before .before .before .before .before .before .before .drive .kept .1 .1 .1 .1 .1 .1 .1 .1 .1 .0)) (a .budget) (a .nodes) _ (c .before .before .before .before .before .before .before .before .before .before .before .before .before .before .before .before .before .before .before .before .before .before .before .before .pre) (sym (counts-fit-is (a .n) L) ∙ sym (c .before .before .before .before .before .before .before .before .before .before .before .before .before .before .before .before .before .before .counts-fit .ensures) ∙ c .before .before .before .before .before .before .before .before .before .before .before .before .before .before .before .before .before .if1 .taken)
+    call-runs L (a .n) _ _ _ (c .before .before .zero .ensures ∙ ap (λ (i : ℕ). replicate i 0) (c .before .before .before .before .before .work .given .1)) (a .budget) (a .nodes) _ (c .before .before .before .before .before .before .before .before .before .before .before .before .before .before .before .before .before .before .before .before .before .before .before .before .pre) (sym (counts-fit-is (a .n) L) ∙ sym (c .before .before .before .before .before .before .before .before .before .before .before .before .before .before .before .before .before .before .counts-fit .ensures) ∙ c .before .before .before .before .before .before .before .before .before .before .before .before .before .before .before .before .before .if1 .taken)
     (enough (a .n) 1 L (c .before .before .before .before .before .before .before .before .before .before .before .before .before .before .before .before .if2 .left) (c .before .before .before .before .before .before .before .before .before .before .before .before .before .before .before .if3 .left) (c .before .before .before .before .before .before .before .before .before .before .before .before .before .before .if4 .left)) (c .before .before .before .before .before .before .before .before .before .before .before .before .before .before .before .before .if2 .left) (c .before .before .before .before .before .before .before .before .before .before .drive .ensures)
 
 returns-5 : tie.Need-returns-5
@@ -78,6 +86,8 @@ run-good-spec =
     returns
     returns-2
     returns-3
+    slice-relend-prefix-drive
+    slice-aggregate-drive
     drive-requires
     zero-requires
     same-length
