@@ -7,7 +7,7 @@ use native.Mathlib.Numerals.{add-one}
 use native.Mathlib.Decide.{decLt}
 use native.Mathlib.Omega.{arith}
 use borrow.Author.Tests.{lt-ltb, le-ltb}
-use lib.ListN.{length, getD, set, take, drop, replicate, length-drop, getD-replicate, length-replicate}
+use lib.ListN.{length, getD, set, take, drop, replicate, length-drop, length-replicate}
 use lib.Seq.{sets, sets-eq, length-sets, set-out, drop-drop, length-take-le, getD-take, getD-drop}
 use Rattle.stretches.specs.Stretches.{stretch, copied}
 use Rattle.words.specs.Words.{lowFirst, numberAt}
@@ -31,7 +31,7 @@ use Rattle.area.specs.Levels.{tableSize, levelSize, levelAt, namesAt, fr
 use Rattle.area.specs.declared.stand.Stand.{Stand}
 use Rattle.area.specs.declared.stand.Next.the-variants.{On, Ends, Full}
 use Rattle.area.proofs.CellsLaws.{cells-same, cells-set, cells-zero}
-use Rattle.area.proofs.LevelLaws.{names-length, frame-same, frames-same, frames-top, frames-length, table-sets}
+use Rattle.area.proofs.LevelLaws.{zeros, names-length, frame-same, frames-same, frames-top, frames-length, table-sets}
 
 -- ---- only the stand changes
 pub stands : (t : Stand) (w : List ℕ) → t .depth .frames ≤ maxFrames → Goes (On t) (on (controlOf t w)) w w
@@ -217,6 +217,17 @@ part-back a k w ys e h =
     let l : a + length ys ≤ length w = omega arith in
     rw (sets-eq ys w a l, drop-drop k a w, ← e, append-assoc)
 
+-- ---- a part that was lent and came back as zeros
+module _ (at k : ℕ) (w ys : List ℕ) (fits : at + k ≤ length w) (z : ys ≡ replicate (length (take k (drop at w))) 0) where
+  zeros-length : length ys ≡ k
+  zeros-length = ap length z ∙ length-replicate {A = ℕ} (length (take k (drop at w))) 0 ∙ length-take-le k (drop at w) (rw length-drop (omega arith))
+
+  pub zeros-back : take at w ++ (ys ++ drop k (drop at w)) ≡ sets w at ys
+  zeros-back = part-back at k w ys zeros-length fits
+
+  pub zeros-at : (i : ℕ) → i < k → getD (sets w at ys) (at + i) 0 ≡ 0
+  zeros-at i h = let l = zeros-length in sets-at ys w at i (omega arith) (omega arith) ∙ ap (λ (x : List ℕ). getD x i 0) z ∙ zeros (length (take k (drop at w))) i
+
 module _ (f : ℕ) (v : Value) (t : Stand) (at k : ℕ) (w ys w′ : List ℕ) (few : t .depth .frames ≤ maxFrames) (room : rowSize ≤ length w) where
   pub called : at ≡ levelAt (t .depth .frames) → k ≡ 144 → ys ≡ replicate (length (take k (drop at w))) 0
       → Binds (record { index = 0 }) v (t .depth .frames) (take at w ++ (ys ++ drop k (drop at w))) w′
@@ -224,13 +235,11 @@ module _ (f : ℕ) (v : Value) (t : Stand) (at k : ℕ) (w ys w′ : List ℕ) (
   unfolding nextOf move controlOf noneBound
   called place e z b =
       let d : ℕ = t .depth .frames in
-      let lent : length (take k (drop at w)) ≡ k = length-take-le k (drop at w) (rw length-drop (omega arith)) in
-      let l : length ys ≡ k = ap length z ∙ length-replicate {A = ℕ} (length (take k (drop at w))) 0 ∙ lent in
-      let c : take at w ++ (ys ++ drop k (drop at w)) ≡ sets w at ys = part-back at k w ys l (omega arith) in
+      let fits : at + k ≤ length w = omega arith in
+      let c = zeros-back at k w ys fits z in
       let n : Binds (record { index = 0 }) v (t .depth .frames) (sets w at ys) w′ = rw c at b in
       let names : namesAt (sets w at ys) d ≡ noneBound
-      = rw (← place) (cells-zero maxNames (sets w at ys) at
-      (λ i h. sets-at ys w at i (omega arith) (omega arith) ∙ ap (λ (l : List ℕ). getD l i 0) z ∙ getD-replicate (length (take k (drop at w))) i 0 0 (omega arith))) in
+      = rw (← place) (cells-zero maxNames (sets w at ys) at (λ i h. zeros-at at k w ys fits z i (omega arith))) in
       let frames : framesOf (sets w at ys) d ≡ framesOf w d = frames-same d (sets w at ys) w (λ i h l. sets-before ys w at i (omega arith)) in
       record {
         gives = rw (n .names, n .frames, names, frames);

@@ -1,13 +1,11 @@
 -- A meeting is concluded: a member's part, one site's, and all of them one after the other. Assumes nothing.
 use mathlib.Core.Path.{_≡_, refl, sym, ap, _∙_, subst}
 use mathlib.Core.Bool.{false, _&&_, cond}
-use mathlib.Core.List.{List, [], _∷_, append-nil}
+use mathlib.Core.List.{List, [], _∷_}
 use Prim.Native.Nat.{ℕ, _+_, _*_, _≤_, _<_}
-use native.Mathlib.Nat.{add-zero}
 use native.Mathlib.Decide.{decLt, ℕ-discrete}
 use native.Mathlib.Omega.{arith}
 use borrow.Author.Tests.{lt-ltb, le-ltb}
-use denote.Enum.{Declared.tagOf}
 use types.Run.{miss}
 use lib.Dec.{ltb}
 use lib.IntN.{ℤ}
@@ -18,7 +16,7 @@ use Rattle.limits.specs.declared.Party.{Party}
 use Rattle.parties.specs.declared.sets.PartySet.{PartySet}
 use Rattle.parties.proofs.LoopLaws.{LoopAt, loop-next, loop-here, loop-over}
 use Rattle.values.specs.Values.{slice}
-use Rattle.records.specs.Events.{written, heldBack}
+use Rattle.records.specs.Events.{heldBack}
 use Rattle.refusals.specs.Numbers.{disagreement}
 use Rattle.rules.specs.Books.{Book, used, handed, eventOf}
 use Rattle.area.specs.Rows.{rowSize, row, areaOf, back}

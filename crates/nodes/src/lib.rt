@@ -56,20 +56,13 @@ pub fn byte(p: &[u8], i: usize) -> u8
     if i < p.len() { p[i] } else { 0 }
 }
 
-// A byte as a wider number: the cast is proved here once.
-fn wide(b: u8) -> u32
-    ensures { λ r. ⌜ (r ≡ b) × (r < 256) ⌝ }
-{
-    b as u32
-}
-
 // One test for both bytes, so that they can be read as one.
 pub fn half(p: &[u8], i: usize) -> u16
     requires { ⌜ i < 262144 ⌝ }
     ensures { λ r. ⌜ r ≡ numberAt 2 (now (p .entry)) i ⌝ }
 {
     if i + 1 < p.len() {
-        return (wide(p[i]) + 256 * wide(p[i + 1])) as u16;
+        return words::load2(p, i);
     }
     byte(p, i) as u16
 }

@@ -1,7 +1,7 @@
 -- Where a site is between its turns, as its area keeps it: how it is with it, and if it runs its node, its mode and how many frames are down.
 use mathlib.Core.Path.{_≡_}
 use Prim.Native.Nat.{ℕ, _+_, _≤_}
-use mathlib.Core.Bool.{Bool, true, false, cond}
+use mathlib.Core.Bool.{true, false, cond}
 use mathlib.Core.List.{List}
 use lib.Dec.{eqb}
 use lib.ListN.{getD, take}

@@ -1,4 +1,4 @@
-// What a turn comes to where control does not just go on: the site finishes, stops, meets others or acts, or nothing changes.
+// What is left to do of a turn that the loop over moves was left at: the site finishes, stops, meets others or acts, or nothing changes.
 ghost use Prim.Native.Nat.{_+_, _*_, _≤_, _<_};
 ghost use lib.ListN.{length};
 ghost use Rattle.limits.specs.Limits.{maxParties, maxFrames};
@@ -84,7 +84,7 @@ fn landed(
     );
 }
 
-// What is left to do of a turn of site p, once it is seen that control does not just go on: whether the turn counts.
+// What is left to do of a turn of site p, once the loop over moves is left: whether the turn counts.
 pub fn turn(
     program: &[u8],
     nodes: usize,

@@ -1,28 +1,26 @@
 -- An area that was zeroed and given its table of places; and what keeps the table. Assumes nothing.
-use mathlib.Core.Path.{_≡_, refl, sym, ap, _∙_}
+use mathlib.Core.Path.{_≡_, sym, ap, _∙_}
 use mathlib.Core.List.{List, _++_}
 use Prim.Native.Nat.{ℕ, _+_, _*_, _≤_, _<_}
 use native.Mathlib.Omega.{arith}
 use borrow.Author.Tests.{lt-ltb, le-ltb}
 use native.Mathlib.Decide.{decLt}
-use lib.ListN.{length, getD, take, drop, replicate, length-drop, length-replicate, List·getD-append, List·getD-eq-default}
-use lib.Seq.{sets, length-sets, length-take-le, getD-take, getD-append-add, getD-drop}
-use Rattle.stretches.proofs.StretchLaws.{sets-at}
+use lib.ListN.{length, getD, take, drop, replicate, List·getD-append, List·getD-eq-default}
+use lib.Seq.{sets, length-sets, getD-take, getD-append-add, getD-drop}
 use Rattle.words.specs.Words.{numberAt}
 use Rattle.words.proofs.WordLaws.{number-same}
 use Rattle.nodes.specs.Nodes.{nodeIn}
-use Rattle.program.specs.Check.{Program, Checked, good, checked, nodeAt}
-use Rattle.places.specs.Places.{placeOf, Tabled}
-use Rattle.places.specs.GoodLaws.{Good, good-program}
-use Rattle.nodes.specs.declared.Node.{Node}
+use Rattle.program.specs.Check.{Program, good, checked, nodeAt}
+use Rattle.places.specs.Places.{Tabled}
+use Rattle.places.specs.GoodLaws.{good-program}
 use Rattle.nodes.specs.declared.Node.the-variants.{READ}
 use Rattle.limits.specs.Limits.{maxNames}
 use Rattle.cells.specs.Cells.{width}
 use Rattle.area.specs.Levels.{tableSize, levelAt}
 use Rattle.table.specs.Table.{PlacesIn, nodeBy, Prepared}
 use Rattle.area.specs.Rows.{rowSize}
-use Rattle.area.proofs.LevelLaws.{names-fresh, zeros}
-use Rattle.area.proofs.MoveLaws.{part-back}
+use Rattle.area.proofs.LevelLaws.{names-fresh}
+use Rattle.area.proofs.MoveLaws.{zeros-back, zeros-at}
 
 -- the bytes w with others in place of the first level's cells
 abbrev pub patched : List ℕ → List ℕ → List ℕ
@@ -30,22 +28,17 @@ patched w ys = take tableSize w ++ (ys ++ drop 144 (drop tableSize w))
 
 -- zeros in place of them
 module _ (w ys : List ℕ) (long : rowSize ≤ length w) (e : ys ≡ replicate (length (take 144 (drop tableSize w))) 0) where
-  part-length : length (take 144 (drop tableSize w)) ≡ 144
-  part-length = length-take-le 144 (drop tableSize w) (rw length-drop (omega arith))
-
-  zeros-length : length ys ≡ 144
-  zeros-length = ap length e ∙ length-replicate {A = ℕ} (length (take 144 (drop tableSize w))) 0 ∙ part-length
+  fits : tableSize + 144 ≤ length w
+  fits = omega arith
 
   back : patched w ys ≡ sets w tableSize ys
-  back = let l = zeros-length in part-back tableSize 144 w ys l (omega arith)
+  back = zeros-back tableSize 144 w ys fits e
 
   pub cleared-length : length (patched w ys) ≡ length w
   cleared-length = ap length back ∙ length-sets w tableSize ys
 
   pub cleared : (k : ℕ) → k < maxNames * width → getD (patched w ys) (tableSize + k) 0 ≡ 0
-  cleared k h =
-      let l = zeros-length in
-      ap (λ (x : List ℕ). getD x (tableSize + k) 0) back ∙ sets-at ys w tableSize k (omega arith) (omega arith) ∙ ap (λ (x : List ℕ). getD x k 0) e ∙ zeros (length (take 144 (drop tableSize w))) k
+  cleared k h = ap (λ (x : List ℕ). getD x (tableSize + k) 0) back ∙ zeros-at tableSize 144 w ys fits e k (omega arith)
 
 pub prepared : (bs : List ℕ) (nodes : ℕ) (ys z : List ℕ) → nodes ≤ 1024 → ((k : ℕ) → k < maxNames * width → getD z (tableSize + k) 0 ≡ 0) → length ys ≡ tableSize
     → Tabled bs nodes (take tableSize z) ys → Prepared bs nodes (ys ++ drop tableSize z)

@@ -6,7 +6,6 @@ use Rattle.advance.proofs.StrideLaws.{far-did, far-not-over}
 use borrow.Author.Needs.{needs}
 use Rattle.advance.proofs.strides.far.Statement.{statement}
 use Rattle.advance.proofs.strides.far.Tie as tie
-use Rattle.advance.proofs.strides.strides.Reads as strides-reads
 
 slice-aggregate-strides : tie.Need-slice-aggregate-strides
 slice-aggregate-strides c = search needs

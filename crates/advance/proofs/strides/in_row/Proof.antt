@@ -6,11 +6,6 @@ use Rattle.advance.proofs.StrideLaws.{seat-few, row-over, row-did}
 use borrow.Author.Needs.{needs}
 use Rattle.advance.proofs.strides.in_row.Statement.{statement}
 use Rattle.advance.proofs.strides.in_row.Tie as tie
-use Rattle.advance.proofs.once.Reads as once-reads
-use Rattle.advance.proofs.strides.keep.Reads as keep-reads
-use Rattle.advance.proofs.strides.leads.Reads as leads-reads
-use Rattle.advance.proofs.strides.seat_of.Reads as seat-of-reads
-use Rattle.advance.proofs.strides.view_of.Reads as view-of-reads
 
 seat-of-requires : tie.Need-seat-of-requires
 seat-of-requires c κs = search needs

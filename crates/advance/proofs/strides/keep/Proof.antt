@@ -3,7 +3,6 @@ use Rattle.advance.proofs.StrideLaws.{keeps-saved, keeps-none}
 use borrow.Author.Needs.{needs}
 use Rattle.advance.proofs.strides.keep.Statement.{statement}
 use Rattle.advance.proofs.strides.keep.Tie as tie
-use Rattle.seats.proofs.save_seat.Reads as save-seat-reads
 
 save-seat-requires : tie.Need-save-seat-requires
 save-seat-requires c κs = search needs

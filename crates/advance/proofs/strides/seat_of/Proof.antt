@@ -2,7 +2,6 @@
 use borrow.Author.Needs.{needs}
 use Rattle.advance.proofs.strides.seat_of.Statement.{statement}
 use Rattle.advance.proofs.strides.seat_of.Tie as tie
-use Rattle.seats.proofs.load_seat.Reads as load-seat-reads
 
 load-seat-requires : tie.Need-load-seat-requires
 load-seat-requires c κs = search needs

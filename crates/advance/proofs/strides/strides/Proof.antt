@@ -11,9 +11,6 @@ use Rattle.advance.proofs.StrideLaws.{led-none, turn-fits, turn-on, tur
 use borrow.Author.Needs.{needs}
 use Rattle.advance.proofs.strides.strides.Statement.{statement}
 use Rattle.advance.proofs.strides.strides.Tie as tie
-use Rattle.advance.proofs.strides.in_row.Reads as in-row-reads
-use Rattle.advance.proofs.strides.leads.Reads as leads-reads
-use Rattle.advance.proofs.strides.whose.Reads as whose-reads
 
 abbrev Inv-loop : tie.InvT-loop
 Inv-loop joint turns first program nodes most work₀ last t₀ k₀ work t k =

@@ -1,19 +1,13 @@
 -- `joint::runs::run_turns` meets its contract. Assumes nothing.
-use mathlib.Core.Path.{_≡_, refl, sym, _∙_}
-use Prim.Native.Nat.{_-_, _*_, _≤_}
+use mathlib.Core.Path.{_≡_, refl, _∙_}
+use Prim.Native.Nat.{_-_}
 use native.Mathlib.Omega.{arith}
 use lib.ListN.{length}
-use Rattle.area.specs.Rows.{rowSize}
 use Rattle.sites.proofs.TurnLaws.{came-fits}
 use borrow.Author.Needs.{needs}
 use Rattle.joint.proofs.TurnLaws.{Going, going-none, going-stride, going-all, rows-fit}
 use Rattle.joint.proofs.runs.run_turns.Statement.{statement}
 use Rattle.joint.proofs.runs.run_turns.Tie as tie
-use Rattle.joint.proofs.runs.run_turns.Reads as reads
-use Rattle.joint.proofs.runs.run_turns.Lts as lts
-use Rattle.advance.proofs.strides.strides.Reads as strides-reads
-use Rattle.joint.proofs.runs.once.Reads as once-reads
-use Rattle.sites.proofs.turn.Reads as turn-reads
 
 abbrev Inv-loop : tie.InvT-loop
 Inv-loop program nodes turns n room inputs at₀ end bytes₀ lengths₀ work₀ nowhere count₀ j₀ at bytes lengths work count j =
