@@ -24,15 +24,22 @@ use Rattle.seats.proofs.SeatLaws.{seat-deep}
 use Rattle.advance.specs.Advances.{Advances, Moves, GoesFar}
 use Rattle.advance.specs.Strides.{whose, viewOf, RowsFit, seatOf, Keeps, onward, leads, Kept, InRow, LeadsOn, AmongRows, Led, StridesTo}
 use Rattle.advance.specs.declared.Advanced.{Advanced}
-use Rattle.advance.specs.declared.Advanced.the-variants.{Moved, Asks}
+use Rattle.advance.specs.declared.Advanced.the-variants.{Moved, Asks, Joins}
 use Rattle.advance.specs.declared.strides.Came.{Came}
 use Rattle.advance.specs.declared.strides.Came.the-variants.{Did, Over}
 use Rattle.advance.specs.declared.strides.Onward.{Onward}
 use Rattle.advance.specs.declared.strides.Onward.the-variants.{To, Not}
 use Rattle.advance.specs.declared.strides.Strode.{Strode}
+use Rattle.advance.proofs.Advanced.{the-type as advanced-type}
 use Rattle.advance.proofs.AdvanceLaws.{no-moves, one-more}
 
 -- ---- where a step leads
+
+-- a step that is no move
+pub leads-none : (s : Stand) (y : Advanced) → OneOf (1 ∷ 2 ∷ []) (tagOf advanced-type y) → Not ≡ leads (Did s y)
+leads-none s (Moved next) h = absurd (miss (1 ∷ 2 ∷ []) 0 tt h)
+leads-none s (Asks effect) h = refl
+leads-none s Joins h = refl
 
 -- a move that does not lead on
 pub leads-not : (s : Stand) (next : Next) → OneOf (1 ∷ 2 ∷ []) (tagOf next-type next) → Not ≡ leads (Did s (Moved next))
@@ -64,6 +71,7 @@ onward-is (Moved (On u)) t e = let same : t ≡ u = cc in ap (λ (x : Stand). Mo
 onward-is (Moved (Ends v)) t e = absurd (let z : _≡_ {A = ℕ} 0 1 = cc in omega arith)
 onward-is (Moved Full) t e = absurd (let z : _≡_ {A = ℕ} 0 1 = cc in omega arith)
 onward-is (Asks effect) t e = absurd (let z : _≡_ {A = ℕ} 0 1 = cc in omega arith)
+onward-is Joins t e = absurd (let z : _≡_ {A = ℕ} 0 1 = cc in omega arith)
 
 module _ (joint : Bool) (P : ℕ) (bs : List ℕ) (nodes : ℕ) (t : Stand) (w : List ℕ) where
   -- the site is over

@@ -2,7 +2,9 @@
 use mathlib.Core.Path.{_≡_}
 use Prim.Native.Nat.{ℕ, zero, suc, _<_}
 use mathlib.Core.List.{List}
+use Rattle.nodes.specs.Nodes.{jointNode, IsJoint}
 use Rattle.nodes.specs.declared.Node.{Node}
+use Rattle.nodes.specs.declared.JointNode.the-variants.{Neither}
 use Rattle.rules.specs.Rules.{rule}
 use Rattle.rules.specs.Moves.{move}
 use Rattle.rules.specs.declared.effects.View.{View}
@@ -14,8 +16,11 @@ use Rattle.area.specs.declared.stand.Stand.{Stand}
 use Rattle.area.specs.declared.stand.Next.{Next}
 use Rattle.area.specs.declared.stand.Next.the-variants as Next′
 use Rattle.table.specs.Table.{nodeBy}
+use Rattle.lookup.specs.Lookup.{Unmet}
 use Rattle.advance.specs.declared.Advanced.{Advanced}
-use Rattle.advance.specs.declared.Advanced.the-variants.{Moved, Asks}
+use Rattle.advance.specs.declared.Advanced.the-variants.{Moved, Asks, Joins}
+use Rattle.advance.specs.declared.Haste.{Haste}
+use Rattle.advance.specs.declared.Haste.the-variants as Haste′
 use Rattle.advance.specs.declared.strides.Gone.{Gone}
 
 -- what the rule of a node asks for, where control stands at t over the bytes w
@@ -34,14 +39,21 @@ Asked Effect′.Reads = Unit {0}
 Asked (Effect′.Writes i) = Unit {0}
 Asked (Effect′.Meets mt o) = Unit {0}
 
--- the answer y where the rule asks for an effect: the move was made, or nothing was done yet
-pub record Answers (asked : Effect) (t : Stand) (y : Advanced) (w w′ : List ℕ) : Type 0 where
-  pub moved : (next : Next) → y ≡ Moved next → (mv : Move) × (Effect′.Goes mv ≡ asked) × Goes next (move mv (controlOf t w)) w w′
-  pub asks : (effect : Effect) → y ≡ Asks effect → (effect ≡ asked) × Asked effect × (w′ ≡ w)
+-- the answer y at a node: the move was made that its rule asks for, or nothing was done yet
+pub record Answers (view : View) (node : Node) (t : Stand) (y : Advanced) (w w′ : List ℕ) : Type 0 where
+  pub moved : (next : Next) → y ≡ Moved next → (mv : Move) × (Effect′.Goes mv ≡ ruleOf view node t w) × Goes next (move mv (controlOf t w)) w w′
+  pub asks : (effect : Effect) → y ≡ Asks effect → (effect ≡ ruleOf view node t w) × Asked effect × (w′ ≡ w) × Unmet effect
+  pub joins : y ≡ Joins → IsJoint (jointNode node) × (w′ ≡ w)
+
+-- what was done of a node before its rule was asked, and is the same for all and for one site
+abbrev pub Hastens : Node → Stand → Haste → (w w′ : List ℕ) → Type 0
+Hastens node t (Haste′.Moved next) w w′ = (view : View) → Answers view node t (Moved next) w w′
+Hastens node t Haste′.Joins w w′ = IsJoint (jointNode node) × (w′ ≡ w)
+Hastens node t Haste′.None w w′ = (jointNode node ≡ Neither) × (w′ ≡ w)
 
 -- one step
 abbrev pub Advances : View → List ℕ → ℕ → Stand → Advanced → (w w′ : List ℕ) → Type 0
-Advances view bs nodes t y w w′ = Answers (ruleAt view bs nodes t w) t y w w′
+Advances view bs nodes t y w w′ = Answers view (nodeBy bs nodes w (t .node)) t y w w′
 
 -- so many moves, one after the other, from the stand t over w to u over v
 unfoldable pub Moves : View → List ℕ → ℕ → ℕ → (t : Stand) (w : List ℕ) (u : Stand) (v : List ℕ) → Type 0

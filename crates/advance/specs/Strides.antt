@@ -15,7 +15,7 @@ use Rattle.seats.specs.declared.Seat.{Seat}
 use Rattle.seats.specs.declared.Seat.the-variants.{Running}
 use Rattle.advance.specs.Advances.{Advances}
 use Rattle.advance.specs.declared.Advanced.{Advanced}
-use Rattle.advance.specs.declared.Advanced.the-variants.{Moved, Asks}
+use Rattle.advance.specs.declared.Advanced.the-variants.{Moved, Asks, Joins}
 use Rattle.advance.specs.declared.strides.Came.{Came}
 use Rattle.advance.specs.declared.strides.Came.the-variants.{Did, Over}
 use Rattle.advance.specs.declared.strides.Onward.{Onward}
@@ -51,6 +51,7 @@ onward (Moved (On t)) = To t
 onward (Moved (Ends v)) = Not
 onward (Moved Full) = Not
 onward (Asks effect) = Not
+onward Joins = Not
 
 abbrev pub leads : Came → Onward
 leads (Did s y) = onward y

@@ -123,7 +123,11 @@ pub fn strides(
     ensures { λ r. ⌜ StridesTo joint (now (turns .entry)) (now (program .entry)) nodes first start most r (now (work .entry)) (now (work .exit)) ⌝ }
 {
     let last = most - 1;
-    let mut t = start;
+    // made anew from its fields, so that the byte that fills it up is not carried along
+    let node = start.node;
+    let mode = start.mode;
+    let depth = start.depth;
+    let mut t = Stand { node, mode, depth };
     let mut k: u32 = 0;
     loop {
         let p = whose(joint, turns, first + k as usize);

@@ -1,7 +1,7 @@
 -- Whether a site is at a meeting, from where it stands and what it is asked to do; and whether it agrees. Assumes nothing.
-use mathlib.Core.Path.{_≡_, refl}
+use mathlib.Core.Path.{_≡_}
 use mathlib.Core.Bool.{Bool, true, false, not}
-use mathlib.Core.List.{List, [], _∷_}
+use mathlib.Core.List.{List}
 use Prim.Native.Nat.{ℕ}
 use borrow.Author.Tests.{ne-eqb, eq-eqb}
 use lib.IntN.{ℤ}
@@ -9,14 +9,13 @@ use Rattle.numbers.specs.Integers.{sameInteger}
 use Rattle.parties.specs.Sets.{member, sameSet}
 use Rattle.limits.specs.declared.Party.{Party}
 use Rattle.parties.specs.declared.sets.PartySet.{PartySet}
-use Rattle.rules.specs.Books.{Book}
-use Rattle.rules.specs.Single.{Setting}
-use Rattle.rules.specs.Joint.{away, attendance, agrees}
+use Rattle.nodes.specs.declared.JointNode.{JointNode}
+use Rattle.rules.specs.Joint.{attendance, agrees}
 use Rattle.rules.specs.declared.effects.Meeting.{Meeting}
 use Rattle.rules.specs.declared.effects.Offer.{Offer}
 use Rattle.rules.specs.declared.effects.Offer.the-variants.{Empty, Secret}
 use Rattle.area.specs.Levels.{controlOf}
-use Rattle.seats.specs.Seats.{seatAt, seated, siteOf}
+use Rattle.seats.specs.Seats.{seatAt, siteOf}
 use Rattle.area.specs.declared.stand.Stand.{Stand}
 use Rattle.seats.specs.declared.Seat.{Seat}
 use Rattle.seats.specs.declared.Seat.the-variants.{Running, Finished, Stopped}
@@ -28,42 +27,42 @@ use Rattle.attends.specs.declared.Attendance.{Attendance}
 use Rattle.attends.specs.declared.Attendance.the-variants.{Away, There}
 
 -- ---- a site that stands at t
-module _ (bs : List ℕ) (nodes : ℕ) (t : Stand) (e : ℕ) (m : PartySet) (P : Party) (room u : ℕ) (w : List ℕ) where
-  pub at-node : (t .node ≡ e → ⊥) → AttendsFrom bs nodes t e m P room u Away w
+module _ (node : JointNode) (t : Stand) (e : ℕ) (m : PartySet) (P : Party) (room u : ℕ) (w : List ℕ) where
+  pub at-node : (t .node ≡ e → ⊥) → AttendsFrom node t e m P room u Away w
   unfolding attendance controlOf
-  at-node h = record { comes = λ p g len places b o. rw (ne-eqb (t .node) e h) }
+  at-node h = record { comes = λ p read b o. rw (ne-eqb (t .node) e h) }
 
   module _ (same : t .node ≡ e) where
-    pub at-mode : sameSet (t .mode) m ≡ false → AttendsFrom bs nodes t e m P room u Away w
+    pub at-mode : sameSet (t .mode) m ≡ false → AttendsFrom node t e m P room u Away w
     unfolding attendance controlOf
-    at-mode h = record { comes = λ p g len places b o. rw (eq-eqb (t .node) e same, h) }
+    at-mode h = record { comes = λ p read b o. rw (eq-eqb (t .node) e same, h) }
 
-    module _ (mode : sameSet (t .mode) m ≡ true) (r : Invitation) (invites : Invites bs nodes P t room u r w) where
-      pub at-not : r ≡ Not → AttendsFrom bs nodes t e m P room u Away w
+    module _ (mode : sameSet (t .mode) m ≡ true) (r : Invitation) (invites : Invites node P t room u r w) where
+      pub at-not : r ≡ Not → AttendsFrom node t e m P room u Away w
       unfolding attendance controlOf
       at-not q =
-          let no : Invites bs nodes P t room u Not w = rw q at invites in
-          record { comes = λ p g len places b o. rw (eq-eqb (t .node) e same, mode, no .comes p g len places b o .1) }
+          let no : Invites node P t room u Not w = rw q at invites in
+          record { comes = λ p read b o. rw (eq-eqb (t .node) e same, mode, no .comes p (rw same read) b o .1) }
 
-      pub at-there : (mt : Meeting) (o : Offer) → r ≡ To mt o → AttendsFrom bs nodes t e m P room u (There o) w
+      pub at-there : (mt : Meeting) (o : Offer) → r ≡ To mt o → AttendsFrom node t e m P room u (There o) w
       unfolding attendance controlOf
       at-there mt o q =
-          let to : Invites bs nodes P t room u (To mt o) w = rw q at invites in
-          record { comes = λ p g len places b u. rw (eq-eqb (t .node) e same, mode, to .comes p g len places b u) }
+          let to : Invites node P t room u (To mt o) w = rw q at invites in
+          record { comes = λ p read b u. rw (eq-eqb (t .node) e same, mode, to .comes p (rw same read) b u) }
 
 -- ---- any site
-module _ (bs : List ℕ) (nodes e : ℕ) (m : PartySet) (P : Party) (room u : ℕ) (w : List ℕ) (seat : Seat) (sits : seat ≡ seatAt w) where
-  pub at-running : (t : Stand) (r : Attendance) → seat ≡ Running t → AttendsFrom bs nodes t e m P room u r w → IsAt bs nodes e m P room u r w
+module _ (node : JointNode) (e : ℕ) (m : PartySet) (P : Party) (room u : ℕ) (w : List ℕ) (seat : Seat) (sits : seat ≡ seatAt w) where
+  pub at-running : (t : Stand) (r : Attendance) → seat ≡ Running t → AttendsFrom node t e m P room u r w → IsAt node e m P room u r w
   unfolding siteOf
-  at-running t r runs a = record { comes = λ p g len places b o. rw (← sits, runs) (a .comes p g len places b o) }
+  at-running t r runs a = record { comes = λ p read b o. rw (← sits, runs) (a .comes p read b o) }
 
-  pub at-finished : seat ≡ Finished → IsAt bs nodes e m P room u Away w
+  pub at-finished : seat ≡ Finished → IsAt node e m P room u Away w
   unfolding attendance siteOf
-  at-finished over = record { comes = λ p g len places b o. rw (← sits, over) }
+  at-finished over = record { comes = λ p read b o. rw (← sits, over) }
 
-  pub at-stopped : seat ≡ Stopped → IsAt bs nodes e m P room u Away w
+  pub at-stopped : seat ≡ Stopped → IsAt node e m P room u Away w
   unfolding attendance siteOf
-  at-stopped over = record { comes = λ p g len places b o. rw (← sits, over) }
+  at-stopped over = record { comes = λ p read b o. rw (← sits, over) }
 
 -- ---- agreement
 module _ (i : ℤ) (h : PartySet) (P : ℕ) where

@@ -8,6 +8,7 @@ ghost use Rattle.area.specs.Rows.{rowSize};
 ghost use Rattle.attends.specs.Attends.{told, AttendsFrom, IsAt};
 use area::stand::Stand;
 use limits::Party;
+use nodes::JointNode;
 use parties::sets::PartySet;
 use rules::effects::Offer;
 use seats::Seat;
@@ -20,8 +21,7 @@ pub enum Attendance {
 
 // Site p, which stands at t, is at the node e in mode m and passes its own checks, or is away.
 fn attends_from(
-    program: &[u8],
-    nodes: usize,
+    node: JointNode,
     t: Stand,
     e: u16,
     m: PartySet,
@@ -31,17 +31,17 @@ fn attends_from(
     area: &[u8],
 ) -> Attendance
     requires { ⌜ (t .depth .frames ≤ maxFrames) × (rowSize ≤ length (now area)) ⌝ }
-    ensures { λ r. ⌜ AttendsFrom (now (program .entry)) nodes t e m p room used r (now (area .entry)) ⌝ }
+    ensures { λ r. ⌜ AttendsFrom node t e m p room used r (now (area .entry)) ⌝ }
 {
-    let node = t.node;
+    let stands = t.node;
     let mode = t.mode;
-    if node != e {
+    if stands != e {
         return Attendance::Away;
     }
     if !mode.is(m) {
         return Attendance::Away;
     }
-    let Invitation::To(_, offer) = site::own::invited(program, nodes, p, t, room, used, area) else {
+    let Invitation::To(_, offer) = site::own::invited(node, p, t, room, used, area) else {
         return Attendance::Away;
     };
     Attendance::There(offer)
@@ -49,8 +49,7 @@ fn attends_from(
 
 // The same of any site. One that is over is away, and nobody is told whether it finished or stopped.
 pub fn attendance_of(
-    program: &[u8],
-    nodes: usize,
+    node: JointNode,
     e: u16,
     m: PartySet,
     p: Party,
@@ -59,10 +58,10 @@ pub fn attendance_of(
     area: &[u8],
 ) -> Attendance
     requires { ⌜ rowSize ≤ length (now area) ⌝ }
-    ensures { λ r. ⌜ IsAt (now (program .entry)) nodes e m p room used r (now (area .entry)) ⌝ }
+    ensures { λ r. ⌜ IsAt node e m p room used r (now (area .entry)) ⌝ }
 {
     match seats::load_seat(area) {
-        Seat::Running(t) => attends_from(program, nodes, t, e, m, p, room, used, area),
+        Seat::Running(t) => attends_from(node, t, e, m, p, room, used, area),
         Seat::Finished => Attendance::Away,
         Seat::Stopped => Attendance::Away,
     }

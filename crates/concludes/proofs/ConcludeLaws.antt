@@ -1,6 +1,6 @@
 -- A meeting is concluded: a member's part, one site's, and all of them one after the other. Assumes nothing.
 use mathlib.Core.Path.{_≡_, refl, sym, ap, _∙_, subst}
-use mathlib.Core.Bool.{false, _&&_, cond}
+use mathlib.Core.Bool.{true, false, _&&_, cond}
 use mathlib.Core.List.{List, [], _∷_}
 use Prim.Native.Nat.{ℕ, _+_, _*_, _≤_, _<_}
 use native.Mathlib.Decide.{decLt, ℕ-discrete}
@@ -10,11 +10,10 @@ use types.Run.{miss}
 use lib.Dec.{ltb}
 use lib.IntN.{ℤ}
 use lib.ListN.{length, getD, set}
-use Rattle.limits.specs.Limits.{maxParties}
-use Rattle.parties.specs.Sets.{member, nextFrom}
+use Rattle.parties.specs.Sets.{member, meet, all}
+use Rattle.parties.specs.SetLaws.{below-member}
 use Rattle.limits.specs.declared.Party.{Party}
 use Rattle.parties.specs.declared.sets.PartySet.{PartySet}
-use Rattle.parties.proofs.LoopLaws.{LoopAt, loop-next, loop-here, loop-over}
 use Rattle.values.specs.Values.{slice}
 use Rattle.records.specs.Events.{heldBack}
 use Rattle.refusals.specs.Numbers.{disagreement}
@@ -112,54 +111,45 @@ below-other k m f J Q d =
       | no l ↦ rw (le-ltb Q k (omega arith), le-ltb Q (k + 1) (omega arith))
     ]
 
-module _ (outcome : Outcome) (m : PartySet) (n room : ℕ) (bytes₀ lengths₀ work₀ : List ℕ) where
-  -- the bytes hold the sites once those below k have come to their conclusion
-  pub record Going (bytes lengths work : List ℕ) (k : ℕ) : Type 0 where
-    pub so : (bs : List ℕ) (nodes : ℕ) (G : Given bs nodes room n) (J : Sites) → Stands G J bytes₀ lengths₀ work₀ → Stands G (below k m (concluding outcome (settingOf (G .program) room)) J) bytes lengths work
+-- the bytes hold the sites once those of s below k have come to their conclusion
+pub record Going (outcome : Outcome) (s : PartySet) (n room : ℕ) (bytes₀ lengths₀ work₀ bytes lengths work : List ℕ) (k : ℕ) : Type 0 where
+  pub so : (bs : List ℕ) (nodes : ℕ) (G : Given bs nodes room n) (J : Sites) → Stands G J bytes₀ lengths₀ work₀ → Stands G (below k s (concluding outcome (settingOf (G .program) room)) J) bytes lengths work
 
-  -- the loop is at party p
-  abbrev pub GoingAt : (bytes lengths work : List ℕ) → ℕ → Type 0
-  GoingAt bytes lengths work p = LoopAt (Going bytes lengths work) m n p
+module _ {outcome : Outcome} {s : PartySet} {n room : ℕ} {bytes₀ lengths₀ work₀ : List ℕ} where
+  pub going-none : Going outcome s n room bytes₀ lengths₀ work₀ bytes₀ lengths₀ work₀ 0
+  unfolding below
+  going-none =
+      record { so = λ bs nodes G J st. stands-same G J (below 0 s (concluding outcome (settingOf (G .program) room)) J) bytes₀ lengths₀ work₀ st (λ Q h. rw (le-ltb Q 0 (omega arith))) }
 
-  module _ (bytes lengths work : List ℕ) where
+  module _ {bytes lengths work : List ℕ} {k : ℕ} (g : Going outcome s n room bytes₀ lengths₀ work₀ bytes lengths work k) where
     -- who is no member does nothing
-    going-out : (k : ℕ) → member k m ≡ false → Going bytes lengths work k → Going bytes lengths work (k + 1)
-    going-out k out g =
+    pub going-out : member k s ≡ false → Going outcome s n room bytes₀ lengths₀ work₀ bytes lengths work (k + 1)
+    going-out out =
         record {
           so = λ bs nodes G J st.
               let f : ℕ → Site → Site = concluding outcome (settingOf (G .program) room) in
-              stands-same G (below k m f J) (below (k + 1) m f J) bytes lengths work (g .so bs nodes G J st)
+              stands-same G (below k s f J) (below (k + 1) s f J) bytes lengths work (g .so bs nodes G J st)
               (λ Q h. elim (ℕ-discrete Q k) [
-                | yes e ↦ rw e (below-own k m f J ∙ rw out)
-                | no d ↦ below-other k m f J Q d
+                | yes e ↦ rw e (below-own k s f J ∙ rw out)
+                | no d ↦ below-other k s f J Q d
               ]);
         }
 
-    going-next : (a p : ℕ) → n ≤ maxParties → a ≤ n → p ≡ nextFrom a m → Going bytes lengths work a → GoingAt bytes lengths work p
-    going-next a p few h q g = rw q (loop-next (Going bytes lengths work) m n few going-out a h g)
-
-    pub going-more : (k : ℕ) (bytes′ lengths′ work′ : List ℕ) (p : ℕ) → n ≤ maxParties → k < n → GoingAt bytes′ lengths′ work′ k → ConcludesOne outcome k room bytes′ lengths′ work′ bytes lengths work
-        → p ≡ nextFrom (k + 1) m → GoingAt bytes lengths work p
-    going-more k bytes′ lengths′ work′ p few h l c q =
-        going-next (k + 1) p few (omega arith) q
+    pub going-more : {bytes′ lengths′ work′ : List ℕ} → k < n → member k s ≡ true → ConcludesOne outcome k room bytes lengths work bytes′ lengths′ work′
+        → Going outcome s n room bytes₀ lengths₀ work₀ bytes′ lengths′ work′ (k + 1)
+    going-more h i c =
         record {
           so = λ bs nodes G J st.
               let f : ℕ → Site → Site = concluding outcome (settingOf (G .program) room) in
-              c .comes bs nodes n G (below k m f J) (below (k + 1) m f J) h (loop-here (Going bytes′ lengths′ work′) m n k h l .so bs nodes G J st)
-              (below-own k m f J ∙ rw (l .inside h)) (below-other k m f J);
+              c .comes bs nodes n G (below k s f J) (below (k + 1) s f J) h (g .so bs nodes G J st) (below-own k s f J ∙ rw i) (below-other k s f J);
         }
 
-    pub going-all : (p : ℕ) → n ≤ p → GoingAt bytes lengths work p → ConcludesAll outcome m n room bytes₀ lengths₀ work₀ bytes lengths work
-    unfolding below putAll
-    going-all p h l =
-        record {
-          comes = λ bs nodes G J st.
-              let f : ℕ → Site → Site = concluding outcome (settingOf (G .program) room) in
-              stands-same G (below n m f J) (putAll m f J) bytes lengths work (loop-over (Going bytes lengths work) m n p h l .so bs nodes G J st) (λ Q h. rw (lt-ltb Q n h));
-        }
-
-  pub going-none : (p : ℕ) → n ≤ maxParties → p ≡ nextFrom 0 m → GoingAt bytes₀ lengths₀ work₀ p
-  unfolding below
-  going-none p few q =
-      going-next bytes₀ lengths₀ work₀ 0 p few (omega arith) q
-      (record { so = λ bs nodes G J st. stands-same G J (below 0 m (concluding outcome (settingOf (G .program) room)) J) bytes₀ lengths₀ work₀ st (λ Q h. rw (le-ltb Q 0 (omega arith))) })
+  pub going-all : {bytes lengths work : List ℕ} (m : PartySet) → s ≡ meet m (all n) → Going outcome s n room bytes₀ lengths₀ work₀ bytes lengths work n
+      → ConcludesAll outcome m n room bytes₀ lengths₀ work₀ bytes lengths work
+  unfolding below putAll
+  going-all {bytes} {lengths} {work} m is g =
+      record {
+        comes = λ bs nodes G J st.
+            let f : ℕ → Site → Site = concluding outcome (settingOf (G .program) room) in
+            stands-same G (below n s f J) (putAll m f J) bytes lengths work (g .so bs nodes G J st) (λ Q h. rw (lt-ltb Q n h, is, below-member Q n m h));
+      }

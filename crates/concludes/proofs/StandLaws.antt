@@ -45,8 +45,8 @@ module _ {bs : List ℕ} {nodes room n : ℕ} (G : Given bs nodes room n) (J J�
   pub stands-length : (P : ℕ) → P < n → used (bookOf (J P)) ≡ getD lengths P 0
   stands-length P h = sym (holds-length room n (λ P. bookOf (J P)) (λ P. bookOf (J P)) (G .bytes₀) (G .lengths₀) bytes lengths (st .holds) P h (G .places))
 
-  pub stands-sits : (P : ℕ) → P < n → Sits bs nodes P (J P) lengths work
-  stands-sits P h = record { site = st .sits P h; count = stands-length P h; table = st .tables P h }
+  pub stands-sits : (P : ℕ) → P < n → Sits P (J P) lengths work
+  stands-sits P h = record { site = st .sits P h; count = stands-length P h }
 
   pub stands-long : (P : ℕ) → P < n → P * room + room ≤ length bytes
   stands-long P h =

@@ -82,9 +82,10 @@ pub fn conclude(
     requires { ⌜ (n ≤ maxParties) × (n * room ≤ length (now bytes)) × (n ≤ length (now lengths)) × (n * rowSize ≤ length (now work)) ⌝ }
     ensures { λ _. ⌜ ConcludesAll outcome m n room (now (bytes .entry)) (now (lengths .entry)) (now (work .entry)) (now (bytes .exit)) (now (lengths .exit)) (now (work .exit)) ⌝ }
 {
-    let mut p = m.next(0);
-    while p < n {
+    let mut left = m.meet(PartySet::all(n));
+    while !left.is_empty() {
+        let p = left.lowest();
         conclude_one(outcome, p, room, bytes, lengths, work);
-        p = m.next(p + 1);
+        left = left.rest();
     }
 }

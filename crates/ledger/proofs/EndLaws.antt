@@ -1,68 +1,71 @@
 -- What all parties together wrote: each member its event, or every party its last. Assumes nothing.
 use mathlib.Core.Path.{_≡_, refl, sym, ap, _∙_}
-use mathlib.Core.Bool.{Bool, true, false, and-false}
-use mathlib.Core.List.{List, _++_, append-nil}
+use mathlib.Core.Bool.{Bool, true, false}
+use mathlib.Core.List.{List, [], _++_, append-nil}
 use mathlib.Core.Option.{some}
 use Prim.Native.Nat.{ℕ, _+_, _≤_, _<_}
 use native.Mathlib.Omega.{arith}
 use lib.Dec.{leb}
-use lib.ListN.{length}
+use lib.ListN.{length, getD}
 use borrow.Author.Tests.{leb-true, leb-false}
 use Rattle.parties.specs.Sets.{member}
 use Rattle.parties.specs.declared.sets.PartySet.{PartySet}
 use Rattle.values.specs.Values.{slice}
 use Rattle.values.specs.declared.value.Value.{Value}
-use Rattle.records.specs.Events.{written, finished, hasRoom, heldBack}
+use Rattle.records.specs.Events.{eventBytes, written, finished, heldBack}
 use Rattle.records.specs.EventLaws.{finished-length}
 use Rattle.records.specs.declared.events.Event.{Event}
 use Rattle.rules.specs.Books.{Books, used, eventFor, roomFor, add, note}
 use Rattle.rules.specs.Single.{noteAll}
 use Rattle.invariants.proofs.BookLaws.{added}
 use Rattle.invariants.proofs.RoomLaws.{fits-after, noted-spare}
-use Rattle.ledger.specs.Ledger.{NotesAll, FinishesAll}
-use Rattle.ledger.specs.Writes.{mayNote, noting, finishing}
+use Rattle.ledger.specs.Ledger.{roomsFor, NotesAll, FinishesAll}
+use Rattle.ledger.specs.Writes.{Writes, chosen, finishing}
+use Rattle.ledger.proofs.RevealLaws.{WorkedOut, member-is, event-is}
 use Rattle.ledger.proofs.RowLaws.{holds-same, holds-length}
 use Rattle.ledger.proofs.RoomLaws.{rooms-each}
-use Rattle.ledger.proofs.WriteLaws.{noting-none, noting-one, finishing-none, finishing-one}
-use Rattle.ledger.proofs.LedgerLaws.{Bounded, Going, partly, partly-below}
+use Rattle.ledger.proofs.WriteLaws.{noting, noting-none, noting-one, untouched, finishing-none, finishing-one}
+use Rattle.ledger.proofs.LedgerLaws.{Bounded, Going, go-more, partly, partly-below}
 
 -- ---- each member its event
-pub noting-bounded : (R : ℕ) (m : PartySet) (e : Event) → Bounded R (noting R m e)
-noting-bounded R m e P u l = go (hasRoom R u (eventFor P e)) refl (member P m) refl
-  where
-    go : (t : Bool) → hasRoom R u (eventFor P e) ≡ t → (s : Bool) → member P m ≡ s → u + length (written (noting R m e P u)) ≤ R
-    go true h true i = rw (noting-one R m e P u (rw (i, h))) (omega (arith, fits-after R u (eventFor P e) h))
-    go true h false i = rw (noting-none R m e P u (rw i)) (omega arith)
-    go false h s i = rw (noting-none R m e P u (rw h (and-false (member P m)))) (omega arith)
+module _ {n : ℕ} {m : PartySet} {e : Event} {s those : PartySet} {other : Event} (w : WorkedOut n m e s those other) (R : ℕ) where
+  module _ {xs ls : List ℕ} {P : ℕ} {xs′ ls′ : List ℕ} (h : P < n) (g : Going R n (noting s those e other) xs ls P xs′ ls′) where
+    -- who is no member writes nothing
+    pub note-out : member P s ≡ false → Going R n (noting s those e other) xs ls (P + 1) xs′ ls′
+    note-out i =
+        let none : written (noting s those e other P (getD ls′ P 0)) ≡ [] = noting-none s those e other P (getD ls′ P 0) i in
+        go-more g h (λ l. rw none (omega arith)) (untouched R P _ xs′ ls′ none)
 
-module _ (R : ℕ) (m : PartySet) (e : Event) (b : Books) (P : ℕ) (o : mayNote R m e P (used (b P)) ≡ true) where
-  has : member P m ≡ true → hasRoom R (used (b P)) (eventFor P e) ≡ true
-  unfolding mayNote
-  has i = rw i at o
+    module _ (rooms : roomsFor R n m e ls ≡ true) (i : member P s ≡ true) where
+      pub note-fits : getD ls′ P 0 + length (eventBytes (chosen those e other P)) ≤ R
+      note-fits =
+          let j : member P m ≡ true = sym (member-is w P h) ∙ i in
+          rw (g .later P (omega arith), event-is w P j) (omega (arith, fits-after R (getD ls P 0) (eventFor P e) (rooms-each R n m e ls rooms P h j)))
 
-  noted-bytes : (t : Bool) → member P m ≡ t → written (noteAll m (some e) b P .events) ≡ written (b P .events) ++ written (noting R m e P (used (b P)))
+      pub note-more : {xs″ ls″ : List ℕ} → Writes R P (eventBytes (chosen those e other P)) xs′ ls′ xs″ ls″ → Going R n (noting s those e other) xs ls (P + 1) xs″ ls″
+      note-more t =
+          let one : written (noting s those e other P (getD ls′ P 0)) ≡ eventBytes (chosen those e other P) = noting-one s those e other P (getD ls′ P 0) i in
+          go-more g h (λ l. rw one note-fits) (rw one t)
+
+  noted-bytes : (b : Books) (P : ℕ) → P < n → (t : Bool) → member P m ≡ t
+      → written (noteAll m (some e) b P .events) ≡ written (b P .events) ++ written (noting s those e other P (used (b P)))
   unfolding noteAll note
-  noted-bytes true i = rw (i, noting-one R m e P (used (b P)) (rw (i, has i))) (added (eventFor P e) (b P))
-  noted-bytes false i = rw (i, noting-none R m e P (used (b P)) (rw i)) (sym (append-nil (written (b P .events))))
+  noted-bytes b P h true i = rw (i, noting-one s those e other P (used (b P)) (member-is w P h ∙ i), event-is w P i) (added (eventFor P e) (b P))
+  noted-bytes b P h false i = rw (i, noting-none s those e other P (used (b P)) (member-is w P h ∙ i)) (sym (append-nil (written (b P .events))))
 
-  noted-fits : used (b P) + heldBack ≤ R → used (noteAll m (some e) b P) + heldBack ≤ R
+  pub note-end : {xs ls xs′ ls′ : List ℕ} → Going R n (noting s those e other) xs ls n xs′ ls′ → NotesAll R n m e xs ls xs′ ls′
   unfolding roomFor
-  noted-fits l = noted-spare R m (some e) b P (λ i. has i) l
-
-pub note-end : {R n : ℕ} {m : PartySet} {e : Event} {xs ls xs′ ls′ : List ℕ} → Going R n (noting R m e) xs ls n xs′ ls′ → NotesAll R n m e xs ls xs′ ls′
-note-end {R} {n} {m} {e} {xs} {ls} {xs′} {ls′} g =
-    record {
-      holds = λ b xs₀ ls₀ x l h f r.
-          let may : (P : ℕ) → P < n → mayNote R m e P (used (b P)) ≡ true = λ P q.
-          rw (holds-length R n b b xs₀ ls₀ xs ls h P q l) at (rooms-each R m e ls n P q r) in (
-            holds-same R n (partly (noting R m e) n b) (noteAll m (some e) b) xs₀ ls₀ xs′ ls′ (g .holds b xs₀ ls₀ l h f)
-                (λ P q. noted-bytes R m e b P (may P q) (member P m) refl ∙ sym (partly-below (noting R m e) n b P q)),
-            (λ P q. noted-fits R m e b P (may P q) (f P q)),
-          );
-    }
+  note-end {xs} {ls} {xs′} {ls′} g =
+      record {
+        holds = λ b xs₀ ls₀ x l h f r. (
+          holds-same R n (partly (noting s those e other) n b) (noteAll m (some e) b) xs₀ ls₀ xs′ ls′ (g .holds b xs₀ ls₀ l h f)
+              (λ P q. noted-bytes b P q (member P m) refl ∙ sym (partly-below (noting s those e other) n b P q)),
+          (λ P q. noted-spare R m (some e) b P (λ i. rw (holds-length R n b b xs₀ ls₀ xs ls h P q l) at (rooms-each R n m e ls r P q i)) (f P q)),
+        );
+      }
 
 -- ---- every party its last event
-pub finishing-bounded : (R : ℕ) (v : Value) → Bounded R (finishing R v)
+pub finishing-bounded : (R : ℕ) (v : Value) (P u : ℕ) → Bounded R (finishing R v) P u
 finishing-bounded R v P u l = go (leb (u + heldBack) R) refl
   where
     go : (t : Bool) → leb (u + heldBack) R ≡ t → u + length (written (finishing R v P u)) ≤ R

@@ -6,7 +6,7 @@ use Prim.Native.Nat.{ℕ, _+_, _*_, _≤_, _<_}
 use native.Mathlib.Omega.{arith}
 use lib.Dec.{ltb}
 use lib.ListN.{length, getD, length-set}
-use lib.Seq.{length-sets}
+use lib.Seq.{length-sets, getD-set-other}
 use borrow.Author.Tests.{ltb-true, ltb-false, lt-ltb, le-ltb}
 use Rattle.records.specs.Events.{written}
 use Rattle.records.specs.EventLaws.{written-append}
@@ -21,9 +21,9 @@ use Rattle.ledger.proofs.RowLaws.{Grew, holds-same, holds-length, holds
 abbrev pub Writer : Type 0
 Writer = (P u : ℕ) → List Event
 
--- no write leaves its party's room
-abbrev pub Bounded : ℕ → Writer → Type 0
-Bounded R w = (P u : ℕ) → u ≤ R → u + length (written (w P u)) ≤ R
+-- party P, which has used u bytes, does not leave its room
+abbrev pub Bounded : ℕ → Writer → (P u : ℕ) → Type 0
+Bounded R w P u = u ≤ R → u + length (written (w P u)) ≤ R
 
 -- the books in which the parties below k have written
 unfoldable pub partly : Writer → ℕ → Books → Books
@@ -59,6 +59,7 @@ pub record Going (R n : ℕ) (w : Writer) (xs ls : List ℕ) (k : ℕ) (xs′ ls
   pub within : k ≤ n
   pub long : length xs′ ≡ length xs
   pub places : length ls′ ≡ length ls
+  pub later : (P : ℕ) → k ≤ P → getD ls′ P 0 ≡ getD ls P 0
   pub holds : (b : Books) (xs₀ ls₀ : List ℕ) → n ≤ length ls₀ → Holds R n b xs₀ ls₀ xs ls → Fits R n b → Holds R n (partly w k b) xs₀ ls₀ xs′ ls′
 
 pub go-none : {R n : ℕ} {w : Writer} {xs ls : List ℕ} → Going R n w xs ls 0 xs ls
@@ -67,6 +68,7 @@ go-none {R} {n} {w} {xs} {ls} =
       within = omega arith;
       long = refl;
       places = refl;
+      later = λ P h. refl;
       holds = λ b xs₀ ls₀ l h f. holds-same R n b (partly w 0 b) xs₀ ls₀ xs ls h (λ P q. partly-above w 0 b P (omega arith));
     }
 
@@ -75,17 +77,18 @@ module _ {R n : ℕ} {w : Writer} {xs ls : List ℕ} {k : ℕ} {xs′ ls′ : Li
   pub go-fits : k < n → n * R ≤ length xs → n ≤ length ls → (k * R + R ≤ length xs′) × (k < length ls′)
   go-fits q x l = (omega (arith, rows k n R q, g .long), omega (arith, g .places))
 
-  pub go-more : {xs″ ls″ : List ℕ} → k < n → Bounded R w → Writes R k (written (w k (getD ls′ k 0))) xs′ ls′ xs″ ls″ → Going R n w xs ls (k + 1) xs″ ls″
+  pub go-more : {xs″ ls″ : List ℕ} → k < n → Bounded R w k (getD ls′ k 0) → Writes R k (written (w k (getD ls′ k 0))) xs′ ls′ xs″ ls″ → Going R n w xs ls (k + 1) xs″ ls″
   go-more {xs″} {ls″} q i s =
       record {
         within = omega arith;
         long = ap length (s .bytes) ∙ length-sets xs′ (k * R + getD ls′ k 0) (written (w k (getD ls′ k 0))) ∙ g .long;
         places = ap length (s .lengths) ∙ length-set ls′ k (getD ls′ k 0 + length (written (w k (getD ls′ k 0)))) ∙ g .places;
+        later = λ P h. rw (s .lengths) (getD-set-other ls′ k P _ 0 (omega arith)) ∙ g .later P (omega arith);
         holds = λ b xs₀ ls₀ l h f.
             let p : Holds R n (partly w k b) xs₀ ls₀ xs′ ls′ = g .holds b xs₀ ls₀ l h f in
             let a : used (partly w k b k) ≡ used (b k) = used-is (partly w k b k) (b k) (partly-above w k b k (omega arith)) in
             let u : getD ls′ k 0 ≡ used (b k) = holds-length R n (partly w k b) b xs₀ ls₀ xs′ ls′ p k q l ∙ a in
-            let r : used (b k) + length (written (w k (used (b k)))) ≤ R = i k (used (b k)) (omega (arith, f k q)) in
+            let r : used (b k) + length (written (w k (used (b k)))) ≤ R = (rw u at i) (omega (arith, f k q)) in
             holds-more R n (partly w k b) (partly w (k + 1) b) xs₀ ls₀ xs′ ls′ p k (written (w k (used (b k)))) xs″ ls″ q l (rw a r) (partly-more w k b) (rw u at s);
       }
 

@@ -1,5 +1,6 @@
 pub mod PartLaws
 pub mod RowLaws
+pub mod RevealLaws
 pub mod RoomLaws
 pub mod WriteLaws
 pub mod LedgerLaws

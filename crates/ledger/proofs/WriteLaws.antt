@@ -1,7 +1,7 @@
 -- One party's write in its part of the lent bytes, and what the parties write. Assumes nothing.
 use mathlib.Core.Path.{_≡_, refl, sym, ap, _∙_}
-use mathlib.Core.Bool.{Bool, true, false, _&&_, cond}
-use mathlib.Core.List.{List, [], _++_}
+use mathlib.Core.Bool.{Bool, true, false, cond}
+use mathlib.Core.List.{List, [], _∷_, _++_}
 use Prim.Native.Nat.{ℕ, _+_, _-_, _*_, _≤_, _<_}
 use native.Mathlib.Nat.{add-zero}
 use native.Mathlib.Omega.{arith}
@@ -13,27 +13,27 @@ use Rattle.parties.specs.Sets.{member}
 use Rattle.parties.specs.declared.sets.PartySet.{PartySet}
 use Rattle.values.specs.Values.{slice}
 use Rattle.values.specs.declared.value.Value.{Value}
-use Rattle.records.specs.Events.{eventBytes, written, finished, hasRoom, heldBack}
+use Rattle.records.specs.Events.{eventBytes, written, finished, heldBack}
 use Rattle.records.specs.EventLaws.{finished-length}
-use Rattle.records.specs.Append.{Appends, Closes}
-use Rattle.records.specs.AppendLaws.{Took, Kept, took, kept}
+use Rattle.records.specs.Append.{Closes}
 use Rattle.records.specs.declared.events.Event.{Event}
-use Rattle.records.specs.declared.events.Appended.{Appended}
-use Rattle.records.specs.declared.events.Appended.the-variants.{To, NoRoom}
-use Rattle.rules.specs.Books.{eventFor}
 use Rattle.invariants.proofs.BookLaws.{written-one}
-use Rattle.ledger.specs.Writes.{Writes, noting, finishing}
+use Rattle.ledger.specs.Writes.{Writes, chosen, finishing}
 use Rattle.ledger.proofs.PartLaws.{part-wrote}
 
 -- ---- what is written
-module _ (R : ℕ) (m : PartySet) (e : Event) (P u : ℕ) where
-  pub noting-none : member P m && hasRoom R u (eventFor P e) ≡ false → written (noting R m e P u) ≡ []
+-- the members of s write, each what is chosen for it
+unfoldable pub noting : (s those : PartySet) (e other : Event) → (P u : ℕ) → List Event
+noting s those e other P u = cond (member P s) (chosen those e other P ∷ []) []
+
+module _ (s those : PartySet) (e other : Event) (P u : ℕ) where
+  pub noting-none : member P s ≡ false → written (noting s those e other P u) ≡ []
   unfolding noting written
   noting-none h = rw h
 
-  pub noting-one : member P m && hasRoom R u (eventFor P e) ≡ true → written (noting R m e P u) ≡ eventBytes (eventFor P e)
+  pub noting-one : member P s ≡ true → written (noting s those e other P u) ≡ eventBytes (chosen those e other P)
   unfolding noting
-  noting-one h = rw h (written-one (eventFor P e))
+  noting-one h = rw h (written-one (chosen those e other P))
 
 module _ (R : ℕ) (v : Value) (P u : ℕ) where
   pub finishing-none : R < u + heldBack → written (finishing R v P u) ≡ []
@@ -79,21 +79,6 @@ module _ (R P : ℕ) (xs ls ys : List ℕ) (h : P * R + R ≤ length xs) where
         bytes = ap (back R P xs) b ∙ part-wrote (P * R) (span R P) 0 xs [] (omega arith) (omega arith);
         lengths = rw add-zero (sym (set-getD ls P 0));
       })
-
-  -- a member's event, by what its room test answered
-  module _ (m : PartySet) (e E : Event) (r : Appended) (f : E ≡ eventFor P e) (i : member P m ≡ true) (a : Appends E (getD ls P 0) (area R P xs) r ys) where
-    pub noted : (n : ℕ) → r ≡ To n → Writes R P (written (noting R m e P (getD ls P 0))) xs ls (back R P xs ys) (set ls P n)
-    noted n t =
-        let w : Took E (getD ls P 0) (area R P xs) n ys = took E (getD ls P 0) (area R P xs) ys n (rw t at a) in
-        let o : hasRoom R (getD ls P 0) (eventFor P e) ≡ true = rw (area-length R P xs h, f) at (w .had) in
-        let b : eventBytes (eventFor P e) ≡ eventBytes E = rw f in
-        wrote (written (noting R m e P (getD ls P 0))) (eventBytes E) n (noting-one R m e P (getD ls P 0) (rw (i, o)) ∙ b) (w .bytes) (omega (arith, w .left, w .to, area-length R P xs h)) (w .to)
-
-    pub not-noted : r ≡ NoRoom → Writes R P (written (noting R m e P (getD ls P 0))) xs ls (back R P xs ys) ls
-    not-noted t =
-        let w : Kept E (getD ls P 0) (area R P xs) ys = kept E (getD ls P 0) (area R P xs) ys (rw t at a) in
-        let o : hasRoom R (getD ls P 0) (eventFor P e) ≡ false = rw (area-length R P xs h, f) at (w .had) in
-        unwritten (written (noting R m e P (getD ls P 0))) (noting-none R m e P (getD ls P 0) (rw (i, o))) (w .bytes)
 
   -- the last event
   pub ended : (v : Value) (E : Event) (n : ℕ) → E ≡ finished (slice P v) → Closes E (getD ls P 0) (area R P xs) n ys

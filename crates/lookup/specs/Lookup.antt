@@ -2,10 +2,18 @@
 use mathlib.Core.List.{List, [], _∷_}
 use lib.ListN.{take}
 use Rattle.limits.specs.declared.Name.{Name}
+use Rattle.parties.specs.declared.sets.PartySet.{PartySet}
 use Rattle.values.specs.declared.value.Value.{Value}
 use Rattle.cells.specs.declared.Bound.{Bound}
 use Rattle.cells.specs.declared.Bound.the-variants.{Unbound, To}
-use Rattle.rules.specs.Names.{Looked, found, unbound, first, second, third}
+use Rattle.nodes.specs.declared.Node.the-variants.{SHARE, REVEAL}
+use Rattle.nodes.specs.declared.JointNode.{JointNode}
+use Rattle.nodes.specs.declared.JointNode.the-variants.{SHARE as SHARE′, REVEAL as REVEAL′, Neither}
+use Rattle.rules.specs.Names.{Names, Looked, found, unbound, first, second, third}
+use Rattle.rules.specs.Rules.{rule}
+use Rattle.rules.specs.declared.effects.View.{View}
+use Rattle.rules.specs.declared.effects.Effect.{Effect}
+use Rattle.rules.specs.declared.effects.Effect.the-variants.{Refuse, Goes, Reads, Writes, Meets}
 use Rattle.local_rules.specs.Handed.{valuesOf}
 use Rattle.lookup.specs.declared.Sought.{Sought}
 use Rattle.lookup.specs.declared.Sought.the-variants as Sought′
@@ -34,3 +42,17 @@ padded (unbound x) = unbound x
 abbrev pub told : Handed → Looked
 told (Handed′.All b) = found (valuesOf b)
 told (Handed′.Unbound x) = unbound x
+
+-- what the rule of a joint node asks for; of another nobody asks it here
+abbrev pub jointRule : View → JointNode → PartySet → Names → Effect
+jointRule view (SHARE′ a q x) m b = rule view (SHARE a q x) m b
+jointRule view (REVEAL′ q x) m b = rule view (REVEAL q x) m b
+jointRule view Neither m b = Reads
+
+-- an effect that is no meeting
+abbrev pub Unmet : Effect → Type 0
+Unmet (Refuse refusal) = Unit {0}
+Unmet (Goes mv) = Unit {0}
+Unmet Reads = Unit {0}
+Unmet (Writes i) = Unit {0}
+Unmet (Meets mt o) = ⊥

@@ -8,11 +8,12 @@ ghost use Rattle.rules.specs.Names.{look, lookAll, namesOf};
 ghost use Rattle.rules.specs.Rules.{rule};
 ghost use Rattle.area.specs.Rows.{rowSize};
 ghost use Rattle.area.specs.Levels.{namesAt};
-ghost use Rattle.lookup.specs.Lookup.{soughtOf, listed, padded, told};
+ghost use Rattle.lookup.specs.Lookup.{soughtOf, listed, padded, told, jointRule};
 use area::stand::Stand;
 use cells::Bound;
 use limits::Depth;
 use limits::Name;
+use nodes::JointNode;
 use nodes::Node;
 use parties::sets::PartySet;
 use rules::bindings::Binding;
@@ -140,4 +141,30 @@ pub fn effect(view: View, node: Node, t: Stand, w: &[u8]) -> Effect
         return Effect::Refuse(refusals::NAME_UNBOUND);
     };
     judge::judged::judge(view, node, m, b)
+}
+
+// What a joint node asks for, where somebody knows that it is one.
+pub fn joint_effect(view: View, node: JointNode, t: Stand, w: &[u8]) -> Effect
+    requires { ⌜ (t .depth .frames ≤ maxFrames) × (rowSize ≤ length (now w)) ⌝ }
+    ensures { λ r. ⌜ r ≡ jointRule view node (t .mode) (namesAt (now (w .entry)) (t .depth .frames)) ⌝ }
+{
+    let m = t.mode;
+    let depth = t.depth;
+    match node {
+        JointNode::SHARE(a, q, x) => {
+            let Sought::Found(b) = seek(w, depth, m, x) else {
+                return Effect::Refuse(refusals::NAME_UNBOUND);
+            };
+            let v = b.value;
+            party_rules::share(view, m, a, q, v)
+        }
+        JointNode::REVEAL(q, x) => {
+            let Sought::Found(b) = seek(w, depth, m, x) else {
+                return Effect::Refuse(refusals::NAME_UNBOUND);
+            };
+            let v = b.value;
+            party_rules::reveal(view, m, q, v)
+        }
+        JointNode::Neither => Effect::Reads,
+    }
 }

@@ -18,10 +18,9 @@ abbrev pub settingOf : Program → ℕ → Setting
 settingOf p room = record { program = p; room = room }
 
 -- site P is what its area and the length of its record say
-pub record Sits (bs : List ℕ) (nodes P : ℕ) (s : Site) (lengths work : List ℕ) : Type 0 where
+pub record Sits (P : ℕ) (s : Site) (lengths work : List ℕ) : Type 0 where
   pub site : s ≡ siteOf (areaOf P work) (bookOf s)
   pub count : used (bookOf s) ≡ getD lengths P 0
-  pub table : PlacesIn bs nodes (areaOf P work)
 
 -- what a run does not change: the program, and what the records and the lengths held when they were lent
 pub record Given (bs : List ℕ) (nodes room n : ℕ) : Type 0 where

@@ -7,6 +7,7 @@ ghost use Rattle.meets.specs.Meets.{Attends, Brings, Gathers, MemberAgre
 use area::stand::ROW;
 use attends::Attendance;
 use limits::Party;
+use nodes::JointNode;
 use parties::sets::PartySet;
 use rules::effects::Meeting;
 use rules::effects::Offer;
@@ -19,8 +20,7 @@ pub enum Gathered {
 
 // Whether site p is at the node e in mode m, by its own area and the length of its own record.
 fn attendance_at(
-    program: &[u8],
-    nodes: usize,
+    node: JointNode,
     e: u16,
     m: PartySet,
     p: u8,
@@ -29,20 +29,19 @@ fn attendance_at(
     work: &[u8],
 ) -> Attendance
     requires { ⌜ (p < length (now lengths)) × (p * rowSize + rowSize ≤ length (now work)) ⌝ }
-    ensures { λ a. ⌜ Attends (now (program .entry)) nodes e m p room a (now (lengths .entry)) (now (work .entry)) ⌝ }
+    ensures { λ a. ⌜ Attends node e m p room a (now (lengths .entry)) (now (work .entry)) ⌝ }
 {
     let i = p as usize;
     let party = Party { index: p };
     let from = i * ROW;
     let to = from + ROW;
     let used = lengths[i];
-    attends::attendance_of(program, nodes, e, m, party, room, used, &work[from..to])
+    attends::attendance_of(node, e, m, party, room, used, &work[from..to])
 }
 
 // With what was brought before: what the member p brings, or that it is away.
 fn brings(
-    program: &[u8],
-    nodes: usize,
+    node: JointNode,
     e: u16,
     m: PartySet,
     p: u8,
@@ -52,10 +51,9 @@ fn brings(
     work: &[u8],
 ) -> Gathered
     requires { ⌜ (p < length (now lengths)) × (p * rowSize + rowSize ≤ length (now work)) ⌝ }
-    ensures { λ r. ⌜ Brings (now (program .entry)) nodes e m p room before r (now (lengths .entry)) (now (work .entry)) ⌝ }
+    ensures { λ r. ⌜ Brings node e m p room before r (now (lengths .entry)) (now (work .entry)) ⌝ }
 {
-    let Attendance::There(offer) = attendance_at(program, nodes, e, m, p, room, lengths, work)
-    else {
+    let Attendance::There(offer) = attendance_at(node, e, m, p, room, lengths, work) else {
         return Gathered::Missing;
     };
     let Offer::Secret(number, bringers) = offer else {
@@ -66,8 +64,7 @@ fn brings(
 
 // All members of m are at the node e, and what they bring; or one is away.
 pub fn gather(
-    program: &[u8],
-    nodes: usize,
+    node: JointNode,
     e: u16,
     m: PartySet,
     n: u8,
@@ -76,25 +73,24 @@ pub fn gather(
     work: &[u8],
 ) -> Gathered
     requires { ⌜ (n ≤ maxParties) × (n ≤ length (now lengths)) × (n * rowSize ≤ length (now work)) ⌝ }
-    ensures { λ r. ⌜ Gathers (now (program .entry)) nodes e m n room r (now (lengths .entry)) (now (work .entry)) ⌝ }
+    ensures { λ r. ⌜ Gathers node e m n room r (now (lengths .entry)) (now (work .entry)) ⌝ }
 {
     let mut brought = Offer::Empty;
-    let mut p = m.next(0);
-    while p < n {
-        let Gathered::All(more) = brings(program, nodes, e, m, p, room, brought, lengths, work)
-        else {
+    let mut left = m.meet(PartySet::all(n));
+    while !left.is_empty() {
+        let p = left.lowest();
+        let Gathered::All(more) = brings(node, e, m, p, room, brought, lengths, work) else {
             return Gathered::Missing;
         };
         brought = more;
-        p = m.next(p + 1);
+        left = left.rest();
     }
     Gathered::All(brought)
 }
 
 // The member p agrees with the number and its holders.
 fn member_agrees(
-    program: &[u8],
-    nodes: usize,
+    node: JointNode,
     e: u16,
     m: PartySet,
     p: u8,
@@ -105,16 +101,15 @@ fn member_agrees(
     work: &[u8],
 ) -> bool
     requires { ⌜ (p < length (now lengths)) × (p * rowSize + rowSize ≤ length (now work)) ⌝ }
-    ensures { λ r. ⌜ MemberAgrees (now (program .entry)) nodes e m p room number holders r (now (lengths .entry)) (now (work .entry)) ⌝ }
+    ensures { λ r. ⌜ MemberAgrees node e m p room number holders r (now (lengths .entry)) (now (work .entry)) ⌝ }
 {
     let party = Party { index: p };
-    let a = attendance_at(program, nodes, e, m, p, room, lengths, work);
+    let a = attendance_at(node, e, m, p, room, lengths, work);
     attends::agrees(number, holders, party, a)
 }
 
 fn all_agree(
-    program: &[u8],
-    nodes: usize,
+    node: JointNode,
     e: u16,
     m: PartySet,
     n: u8,
@@ -125,33 +120,22 @@ fn all_agree(
     work: &[u8],
 ) -> bool
     requires { ⌜ (n ≤ maxParties) × (n ≤ length (now lengths)) × (n * rowSize ≤ length (now work)) ⌝ }
-    ensures { λ r. ⌜ AllAgree (now (program .entry)) nodes e m n room number holders r (now (lengths .entry)) (now (work .entry)) ⌝ }
+    ensures { λ r. ⌜ AllAgree node e m n room number holders r (now (lengths .entry)) (now (work .entry)) ⌝ }
 {
-    let mut p = m.next(0);
-    while p < n {
-        if !member_agrees(
-            program,
-            nodes,
-            e,
-            m,
-            p,
-            room,
-            number,
-            holders,
-            lengths,
-            work,
-        ) {
+    let mut left = m.meet(PartySet::all(n));
+    while !left.is_empty() {
+        let p = left.lowest();
+        if !member_agrees(node, e, m, p, room, number, holders, lengths, work) {
             return false;
         }
-        p = m.next(p + 1);
+        left = left.rest();
     }
     true
 }
 
 // At a REVEAL the members have to agree; at a SHARE there is nobody to agree with.
 pub fn agreed(
-    program: &[u8],
-    nodes: usize,
+    node: JointNode,
     e: u16,
     m: PartySet,
     mt: Meeting,
@@ -163,21 +147,10 @@ pub fn agreed(
     work: &[u8],
 ) -> bool
     requires { ⌜ (n ≤ maxParties) × (n ≤ length (now lengths)) × (n * rowSize ≤ length (now work)) ⌝ }
-    ensures { λ r. ⌜ Agreed (now (program .entry)) nodes e m mt n room number holders r (now (lengths .entry)) (now (work .entry)) ⌝ }
+    ensures { λ r. ⌜ Agreed node e m mt n room number holders r (now (lengths .entry)) (now (work .entry)) ⌝ }
 {
     match mt {
         Meeting::Sharing(_, _) => true,
-        Meeting::Revealing(_) => all_agree(
-            program,
-            nodes,
-            e,
-            m,
-            n,
-            room,
-            number,
-            holders,
-            lengths,
-            work,
-        ),
+        Meeting::Revealing(_) => all_agree(node, e, m, n, room, number, holders, lengths, work),
     }
 }

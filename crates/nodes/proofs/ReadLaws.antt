@@ -1,17 +1,16 @@
 -- Reading a program's bytes: at a place of the program, and of the bytes from a place on. Assumes nothing.
 use mathlib.Core.Path.{_≡_, refl, sym, ap, _∙_}
 use mathlib.Core.List.{List, [], _∷_}
-use Prim.Native.Nat.{ℕ, zero, suc, _+_, _-_, _*_, _≤_}
+use Prim.Native.Nat.{ℕ, zero, suc, _+_, _/_, _%_, _^_, _≤_, _<_}
 use native.Mathlib.Nat.{add-assoc, add-zero}
 use native.Mathlib.Omega.{arith}
 use lib.ListN.{length, getD, drop, List·getD-eq-default}
 use lib.Seq.{getD-drop}
-use Rattle.numbers.specs.Integers.{signed}
 use Rattle.numbers.specs.declared.integers.Operation.the-variants.{Lt}
-use Rattle.words.specs.Words.{numberAt, integerAt}
+use Rattle.words.specs.Words.{numberAt, Spells}
 use Rattle.words.proofs.WordLaws.{number-same}
-use Rattle.nodes.specs.Nodes.{nodeOf, nodeIn, nameIn, jointNode, operationOf}
-use Rattle.parties.specs.SetBytes.{setAt}
+use Rattle.words.proofs.SpellLaws.{spelled-number}
+use Rattle.nodes.specs.Nodes.{nodeOf, nodeIn, jointNode, operationOf}
 use Rattle.nodes.specs.declared.Node.the-variants.{READ, SHARE, REVEAL}
 use Rattle.nodes.specs.declared.JointNode.the-variants.{Neither}
 use Rattle.nodes.specs.RangeLaws.{past, every, NoneOf}
@@ -30,24 +29,31 @@ pub number-last : (p : List ℕ) (i : ℕ) → length p ≤ i + 1 → numberAt 2
 unfolding numberAt
 number-last p i h = omega (arith, number-past 1 p (i + 1) h)
 
--- two numbers of two bytes make an integer
-pub two-halves : (p : List ℕ) (i : ℕ) {a b : ℕ} → a ≡ numberAt 2 p i → b ≡ numberAt 2 p (i + 2) → signed (a + 65536 * b) ≡ integerAt p i
-unfolding numberAt
-two-halves p i {a} {b} e f = let s : a + 65536 * b ≡ numberAt 4 p i = simp add-assoc (omega (arith, simp add-assoc at f)) in ap signed s
+-- the node at a place, by the number that its six bytes spell
+module _ (p : List ℕ) (at w : ℕ) (s : Spells 6 p at w) where
+  pub body-number : (k j : ℕ) → j + k ≤ 5 → w / 256 ^ suc j % 256 ^ k ≡ numberAt k (drop (at + 1) p) j
+  body-number k j h =
+      let e : at + 1 + j ≡ at + suc j = omega arith in
+      spelled-number k 6 p at w (suc j) s (omega arith) ∙ sym (number-drop k (at + 1) p j ∙ ap (λ (i : ℕ). numberAt k p i) e)
 
-pub kind-is : {b : ℕ} (p : List ℕ) (at k : ℕ) → b ≡ getD p at 0 → b ≡ k → nodeOf k (drop (at + 1) p) ≡ nodeIn p at
-unfolding nodeIn
-kind-is p at k e f = ap (λ (j : ℕ). nodeOf j (drop (at + 1) p)) (sym f ∙ e)
+  pub body-byte : (j : ℕ) → j < 5 → w / 256 ^ suc j % 256 ≡ getD (drop (at + 1) p) j 0
+  body-byte j h =
+      let e : at + 1 + j ≡ at + suc j = omega arith in
+      s (suc j) (omega arith) ∙ sym (getD-drop (at + 1) p j 0 ∙ ap (λ (i : ℕ). getD p i 0) e)
 
--- the two nodes that `joint_node_at` reads too
-module _ {b : ℕ} (p : List ℕ) (at : ℕ) (kind : b ≡ getD p at 0) where
-  pub share-in : b ≡ 8 → SHARE (record { index = getD p (at + 1) 0 }) (setAt p (at + 1 + 1)) (nameIn p (at + 1 + 3)) ≡ nodeIn p at
-  unfolding nodeOf
-  share-in e = simp (getD-drop, number-drop, add-zero) at (kind-is p at 8 kind e)
+  module _ {b : ℕ} (kind : b ≡ w / 1 % 256) where
+    pub kind-is : (k : ℕ) → b ≡ k → nodeOf k (drop (at + 1) p) ≡ nodeIn p at
+    unfolding nodeIn
+    kind-is k e = let first : w / 1 % 256 ≡ getD p at 0 = rw add-zero at (s 0 (omega arith)) in ap (λ (j : ℕ). nodeOf j (drop (at + 1) p)) (sym e ∙ kind ∙ first)
 
-  pub reveal-in : b ≡ 9 → REVEAL (setAt p (at + 1)) (nameIn p (at + 1 + 2)) ≡ nodeIn p at
-  unfolding nodeOf
-  reveal-in e = simp (getD-drop, number-drop, add-zero) at (kind-is p at 9 kind e)
+    -- the two nodes that `joint_node_at` reads too
+    pub share-in : b ≡ 8 → SHARE (record { index = w / 256 % 256 }) (record { bits = w / 65536 % 65536 }) (record { index = w / 4294967296 % 256 }) ≡ nodeIn p at
+    unfolding nodeOf
+    share-in e = rw (body-byte 0 (omega arith), body-number 2 1 (omega arith), body-byte 3 (omega arith)) (kind-is 8 e)
+
+    pub reveal-in : b ≡ 9 → REVEAL (record { bits = w / 256 % 65536 }) (record { index = w / 16777216 % 256 }) ≡ nodeIn p at
+    unfolding nodeOf
+    reveal-in e = rw (body-number 2 0 (omega arith), body-byte 2 (omega arith)) (kind-is 9 e)
 
 -- the kinds that no arm of `node_at` has are READ's, or no node's
 abbrev Others : ℕ → Type 0

@@ -71,3 +71,9 @@ jointNode (LET x e1 e2) = Neither
 jointNode (CASE x e1 e2) = Neither
 jointNode (PAR p e) = Neither
 jointNode (CALL f x) = Neither
+
+-- a node of a meeting
+abbrev pub IsJoint : JointNode → Type 0
+IsJoint (SHARE′ a q x) = Unit {0}
+IsJoint (REVEAL′ q x) = Unit {0}
+IsJoint Neither = ⊥

@@ -9,7 +9,7 @@ use borrow.Author.Tests.{eq-eqb, ne-eqb, lt-ltb, le-ltb}
 use lib.Count.{ones, ones-step, trailingZeros, trailing-le, under}
 use lib.Dec.{eqb, ltb}
 use lib.Pow.{pow-lt, pow-mono, pow-pos}
-use Rattle.parties.specs.Sets.{bit, member, countFrom, count, lowestFrom, lowest, nextFrom, within, only, all, join, sameSet, makeUp}
+use Rattle.parties.specs.Sets.{bit, member, countFrom, count, lowestFrom, lowest, within, only, all, join, sameSet, makeUp}
 use Rattle.parties.specs.SetLaws.{bit-high, member-join, member-only, same-set}
 use Rattle.parties.specs.declared.sets.PartySet.{PartySet}
 
@@ -49,13 +49,8 @@ zeros-are-below s =
     let e : s .bits / 2 ^ 0 ≡ s .bits = div-one (s .bits) in
     ap (λ (n : ℕ). trailingZeros 16 n) (sym e) ∙ omega (arith, zeros-from 16 0 s)
 
--- the zeros from bit i on, below the next one
-pub zeros-are-between : (i : ℕ) (s : PartySet) → min (i + trailingZeros 16 (s .bits / 2 ^ i)) 16 ≡ nextFrom i s
-unfolding nextFrom
-zeros-are-between i s = ap (λ (n : ℕ). min n 16) (zeros-from 16 i s)
-
-pub zeros-fit : (i n : ℕ) → i < 16 → i + trailingZeros 16 n < 256
-zeros-fit i n h = omega (arith, trailing-le 16 n)
+pub zeros-few : (n : ℕ) → trailingZeros 16 n < 256
+zeros-few n = omega (arith, trailing-le 16 n)
 
 -- no party above 15 is in a set of 16 bits
 pub none-above : (i : ℕ) (s : PartySet) → s .bits < 65536 → 16 ≤ i → false ≡ member i s

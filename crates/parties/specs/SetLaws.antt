@@ -1,17 +1,17 @@
 -- Laws of party sets: all that a proof about them uses. Assumes nothing.
 use mathlib.Core.Path.{_≡_, refl, sym, ap, _∙_}
-use mathlib.Core.Bool.{Bool, true, false, cond, _&&_, _||_, false≢true}
+use mathlib.Core.Bool.{Bool, true, false, cond, not, _&&_, _||_, and-true, and-false, false≢true}
 use Prim.Native.Nat.{ℕ, zero, suc, _+_, _-_, _*_, _/_, _%_, _^_, _≤_, _<_, min, max}
-use native.Mathlib.Nat.{mul-comm, mod-lt, zero-lt-suc, pow-suc, not-suc-le-zero, mul-div-cancel, mul-mod-left, div-one, div-div-eq-div-mul, div-eq-of-lt}
+use native.Mathlib.Nat.{add-zero, mul-comm, mod-lt, zero-lt-suc, pow-suc, not-suc-le-zero, mul-div-cancel, mul-mod-left, div-one, div-div-eq-div-mul, div-eq-of-lt}
 use native.Mathlib.Decide.{decLt}
 use native.Mathlib.Omega.{arith}
 use borrow.Author.Tests.{eq-eqb, ne-eqb, eqb-true, eqb-false, lt-ltb, ltb-true}
 use lib.Arith.{digits-div, digits-mod, bin-ind, dbl-pred}
 use lib.Pow.{pow-pos, pow-mono}
-use lib.Bits.{bitAnd, bitOr, and-shr, or-shr, and-step, or-step}
+use lib.Bits.{bitAnd, bitOr, and-shr, or-shr, and-step, or-step, and-self, and-le-r}
 use lib.Dec.{eqb, lit<, eqb·suc-suc, eqb·zero-suc, eqb·suc-zero}
 use Rattle.limits.specs.Limits.{maxParties}
-use Rattle.parties.specs.Sets.{bit, member, meet, join, isEmpty, sameSet, none, only, all, within, countFrom, count, lowestFrom, lowest, nextFrom, makeUp}
+use Rattle.parties.specs.Sets.{bit, member, meet, join, isEmpty, sameSet, none, only, all, within, countFrom, count, lowestFrom, lowest, rest, makeUp}
 use Rattle.parties.specs.declared.sets.PartySet.{PartySet}
 
 -- ---- one bit
@@ -24,6 +24,13 @@ bit-suc i n = rw (pow-suc 2 i, mul-comm (2 ^ i) 2, ← div-div-eq-div-mul n 2 (2
 
 bit-lt : (i n : ℕ) → bit i n < 2
 bit-lt i n = omega arith
+
+-- the digits of twice a number
+twice-last : (x : ℕ) → bit 0 (x * 2) ≡ 0
+twice-last x = bit-zero (x * 2) ∙ mul-mod-left x 2
+
+twice-suc : (i x : ℕ) → bit (suc i) (x * 2) ≡ bit i x
+twice-suc i x = bit-suc i (x * 2) ∙ rw (mul-div-cancel x (zero-lt-suc 1))
 
 one-of-two : (f : ℕ → ℕ → ℕ) (g : Bool → Bool → Bool) → eqb (f 0 0) 1 ≡ g false false → eqb (f 0 1) 1 ≡ g false true → eqb (f 1 0) 1 ≡ g true false → eqb (f 1 1) 1 ≡ g true true
     → (a b : ℕ) → a < 2 → b < 2 → eqb (f a b) 1 ≡ g (eqb a 1) (eqb b 1)
@@ -59,9 +66,9 @@ member-none i = rw (bit-none i)
 
 bit-only : (i a : ℕ) → eqb (bit i (2 ^ a)) 1 ≡ eqb i a
 bit-only zero zero = refl
-bit-only zero (suc a) = rw (bit-zero, pow-suc 2 a, mul-mod-left (2 ^ a) 2) (sym (eqb·zero-suc a))
+bit-only zero (suc a) = rw (pow-suc 2 a, twice-last (2 ^ a)) (sym (eqb·zero-suc a))
 bit-only (suc i) zero = rw (bit-suc i 1, bit-none i) (sym (eqb·suc-zero i))
-bit-only (suc i) (suc a) = rw (bit-suc i (2 ^ suc a), pow-suc 2 a, mul-div-cancel (2 ^ a) (zero-lt-suc 1)) (bit-only i a ∙ sym (eqb·suc-suc i a))
+bit-only (suc i) (suc a) = rw (pow-suc 2 a, twice-suc i (2 ^ a)) (bit-only i a ∙ sym (eqb·suc-suc i a))
 
 pub member-only : (i a : ℕ) → member i (only a) ≡ eqb i a
 unfolding member only
@@ -95,6 +102,14 @@ pub within-all : (n : ℕ) → within n (all n) ≡ true
 unfolding within all
 within-all n = lt-ltb (2 ^ n - 1) (2 ^ n) (omega (arith, pow-pos n))
 
+-- the members of a set that are below n
+pub below-within : (n : ℕ) (s : PartySet) → within n (meet s (all n)) ≡ true
+unfolding within meet all
+below-within n s = lt-ltb (bitAnd (s .bits) (2 ^ n - 1)) (2 ^ n) (omega (arith, and-le-r (s .bits) (2 ^ n - 1), pow-pos n))
+
+pub below-member : (i n : ℕ) (s : PartySet) → i < n → member i (meet s (all n)) ≡ member i s
+below-member i n s h = member-meet i s (all n) ∙ rw (member-all i n h) (and-true (member i s))
+
 -- a set that is not empty has a member
 some-bit : (n : ℕ) → eqb n 0 ≡ false → (i : ℕ) × (eqb (bit i n) 1 ≡ true)
 some-bit = bin-ind (λ (n : ℕ). eqb n 0 ≡ false → (i : ℕ) × (eqb (bit i n) 1 ≡ true)) (λ h. absurd (false≢true (sym h))) step
@@ -107,6 +122,10 @@ some-bit = bin-ind (λ (n : ℕ). eqb n 0 ≡ false → (i : ℕ) × (eqb (bit i
               let (i, t) = ih (ne-eqb (n / 2) 0 (λ z. eqb-false n 0 h (omega arith))) in
               (suc i, rw (bit-suc i n) t)
         ]
+
+pub no-member : (i : ℕ) (s : PartySet) → isEmpty s ≡ true → member i s ≡ false
+unfolding isEmpty member
+no-member i s h = rw (eqb-true (s .bits) 0 h, bit-none i)
 
 pub some-member : (s : PartySet) → isEmpty s ≡ false → (i : ℕ) × (member i s ≡ true)
 unfolding isEmpty member
@@ -121,7 +140,7 @@ pub same-self : (s : PartySet) → sameSet s s ≡ true
 unfolding sameSet
 same-self s = eq-eqb (s .bits) (s .bits) refl
 
--- ---- the next party of a set
+-- ---- the lowest party of a set
 
 -- r is the lowest of the k parties from i on, or i + k
 record Lowest (k i : ℕ) (s : PartySet) (r : ℕ) : Type 0 where
@@ -146,22 +165,70 @@ lowest-from (suc k) i s = go (member i s) refl (lowest-from k (suc i) s)
           ];
         }
 
--- it is no lower than i, or it is 16
-pub next-least : (i : ℕ) (s : PartySet) → min i maxParties ≤ nextFrom i s
-unfolding nextFrom
-next-least i s = omega (arith, lowest-from 16 i s .least)
+-- ---- the lowest party of a set, and the others
 
 -- it is in the set where it is below 16
-pub next-member : (i : ℕ) (s : PartySet) → nextFrom i s < maxParties → member (nextFrom i s) s ≡ true
-unfolding nextFrom
-next-member i s h =
-    let e : lowestFrom 16 i s ≡ min (lowestFrom 16 i s) 16 = omega arith in
-    rw e at (lowest-from 16 i s .one (omega arith))
+pub lowest-member : (s : PartySet) → lowest s < maxParties → member (lowest s) s ≡ true
+unfolding lowest
+lowest-member s h = lowest-from 16 0 s .one h
 
--- no party is passed over
-pub next-none : (i j : ℕ) (s : PartySet) → i ≤ j → j < nextFrom i s → member j s ≡ false
-unfolding nextFrom
-next-none i j s h l = lowest-from 16 i s .passed j h (omega arith)
+-- no party below it is
+pub lowest-none : (j : ℕ) (s : PartySet) → j < lowest s → member j s ≡ false
+unfolding lowest
+lowest-none j s l = lowest-from 16 0 s .passed j (omega arith) l
+
+pub lowest-least : (j : ℕ) (s : PartySet) → member j s ≡ true → lowest s ≤ j
+lowest-least j s e =
+    elim (decLt j (lowest s)) [
+      | yes l ↦ absurd (false≢true (sym (lowest-none j s l) ∙ e))
+      | no l ↦ omega arith
+    ]
+
+no-bit : (i : ℕ) (s : PartySet) → member i s ≡ false → bit i (s .bits) ≡ 0
+unfolding member
+no-bit i s q = omega (arith, eqb-false (bit i (s .bits)) 1 q)
+
+-- where one of two last digits is 0
+and-even : (a b h : ℕ) → min (a % 2) (b % 2) ≡ 0 → b / 2 ≡ h → bitAnd a b ≡ bitAnd (a / 2) h * 2
+and-even a b h z e = and-step a b ∙ rw (e, z, add-zero)
+
+before-odd : (b : ℕ) → bit 0 b ≡ 1 → bitAnd b (b - 1) ≡ b / 2 * 2
+before-odd b o = let e : b % 2 ≡ 1 = sym (bit-zero b) ∙ o in and-even b (b - 1) (b / 2) (omega arith) (omega arith) ∙ rw (and-self (b / 2))
+
+before-even : (b : ℕ) → bit 0 b ≡ 0 → bitAnd b (b - 1) ≡ bitAnd (b / 2) (b / 2 - 1) * 2
+before-even b o = let e : b % 2 ≡ 0 = sym (bit-zero b) ∙ o in and-even b (b - 1) (b / 2 - 1) (omega arith) (omega arith)
+
+-- a number and the one before it share all ones but the lowest
+rest-bit : (r b : ℕ) → bit r b ≡ 1 → ((j : ℕ) → j < r → bit j b ≡ 0) → (j : ℕ) → eqb (bit j (bitAnd b (b - 1))) 1 ≡ eqb (bit j b) 1 && not (eqb j r)
+rest-bit zero b o z zero = rw (before-odd b o, twice-last (b / 2)) (sym (and-false (eqb (bit 0 b) 1)))
+rest-bit zero b o z (suc i) = rw (before-odd b o, twice-suc i (b / 2), eqb·suc-zero i, bit-suc i b) (sym (and-true (eqb (bit i (b / 2)) 1)))
+rest-bit (suc r) b o z zero = rw (before-even b (z 0 (omega arith)), twice-last (bitAnd (b / 2) (b / 2 - 1)), z 0 (omega arith))
+rest-bit (suc r) b o z (suc i) =
+    rw (before-even b (z 0 (omega arith)), twice-suc i (bitAnd (b / 2) (b / 2 - 1)), bit-suc i b, eqb·suc-suc i r)
+    (rest-bit r (b / 2) (sym (bit-suc r b) ∙ o) (λ j l. sym (bit-suc j b) ∙ z (suc j) (omega arith)) i)
+
+pub member-rest : (j : ℕ) (s : PartySet) → lowest s < maxParties → member j (rest s) ≡ member j s && not (eqb j (lowest s))
+unfolding member rest
+member-rest j s h = rest-bit (lowest s) (s .bits) (eqb-true (bit (lowest s) (s .bits)) 1 (lowest-member s h)) (λ i l. no-bit i s (lowest-none i s l)) j
+
+pub rest-rises : (s : PartySet) → lowest s < maxParties → lowest s < lowest (rest s)
+rest-rises s h =
+    elim (decLt (lowest s) (lowest (rest s))) [
+      | yes l ↦ l
+      | no l ↦ absurd (false≢true (sym (none-yet (lowest (rest s)) (omega arith)) ∙ lowest-member (rest s) (omega arith)))
+    ]
+  where
+    none-yet : (j : ℕ) → j ≤ lowest s → member j (rest s) ≡ false
+    none-yet j l =
+        elim (decLt j (lowest s)) [
+          | yes b ↦ member-rest j s h ∙ rw (lowest-none j s b)
+          | no b ↦ member-rest j s h ∙ rw (eq-eqb j (lowest s) (omega arith)) (and-false (member j s))
+        ]
+
+-- the others are fewer
+pub rest-fewer : (s : PartySet) → isEmpty s ≡ false → rest s .bits < s .bits
+unfolding isEmpty rest
+rest-fewer s h = omega (arith, and-le-r (s .bits) (s .bits - 1), eqb-false (s .bits) 0 h)
 
 -- ---- "m has one party": a set of count 1 has one member, and that is the lowest
 
@@ -198,10 +265,6 @@ sole-member s i j e hi mi hj mj =
     ]
 
 -- the lowest party of a set that has some is one of them
-no-bit : (i : ℕ) (s : PartySet) → member i s ≡ false → bit i (s .bits) ≡ 0
-unfolding member
-no-bit i s q = omega (arith, eqb-false (bit i (s .bits)) 1 q)
-
 counted-some : (k i : ℕ) (s : PartySet) → 1 ≤ countFrom k i s → lowestFrom k i s < i + k
 unfolding countFrom lowestFrom
 counted-some zero i s h = absurd (omega arith)
@@ -213,7 +276,7 @@ counted-some (suc k) i s h = go (member i s) refl (counted-some k (suc i) s)
 
 pub lowest-one : (m : PartySet) → count m ≡ 1 → (member (lowest m) m ≡ true) × (lowest m < maxParties)
 unfolding count lowest
-lowest-one m e = let l = counted-some 16 0 m (omega arith) in (lowest-from 16 0 m .one l, omega arith)
+lowest-one m e = let l : lowest m < maxParties = counted-some 16 0 m (omega arith) in (lowest-member m l, l)
 
 pub only-member : (s : PartySet) (i : ℕ) → count s ≡ 1 → i < maxParties → member i s ≡ true → lowest s ≡ i
 only-member s i e h m = let l = lowest-one s e in sole-member s (lowest s) i e (l .1) (l .0) h m

@@ -57,9 +57,9 @@ lowestFrom (suc k) i s = cond (member i s) i (lowestFrom k (suc i) s)
 unfoldable pub lowest : PartySet → ℕ
 lowest s = lowestFrom maxParties 0 s
 
--- the lowest party in s at i or above, and 16 where there is none
-unfoldable pub nextFrom : ℕ → PartySet → ℕ
-nextFrom i s = min (lowestFrom maxParties i s) maxParties
+-- s without its lowest party
+unfoldable pub rest : PartySet → PartySet
+rest s = record { bits = bitAnd (s .bits) (s .bits - 1) }
 
 -- "a and q together are exactly m"
 unfoldable pub makeUp : ℕ → PartySet → PartySet → Bool

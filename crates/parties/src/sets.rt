@@ -3,7 +3,7 @@ ghost use mathlib.Core.Path.{_≡_};
 ghost use mathlib.Core.Bool.{Bool};
 ghost use Prim.Native.Nat.{_<_, _≤_};
 ghost use Rattle.limits.specs.Limits.{maxParties};
-ghost use Rattle.parties.specs.Sets.{member, meet, join, isEmpty, sameSet, count, lowest, nextFrom, only, all, within, makeUp};
+ghost use Rattle.parties.specs.Sets.{member, meet, join, isEmpty, sameSet, count, lowest, rest, only, all, within, makeUp};
 use limits::Party;
 
 pub struct PartySet {
@@ -58,25 +58,21 @@ impl PartySet {
     }
 
     // The lowest party in the set; 16 where there is none.
-    pub fn lowest(self) -> u32
+    pub fn lowest(self) -> u8
         ensures { λ r. ⌜ r ≡ lowest self ⌝ }
     {
-        u16::trailing_zeros(self.bits)
+        u16::trailing_zeros(self.bits) as u8
     }
 
-    // The lowest party in the set at `from` or above; 16 where there is none.
-    pub fn next(self, from: u8) -> u8
-        ensures { λ r. ⌜ r ≡ nextFrom from self ⌝ }
+    // The set without its lowest party.
+    pub fn rest(self) -> PartySet
+        ensures { λ r. ⌜ r ≡ rest self ⌝ }
     {
-        let bits = self.bits;
-        if from < Party::MAX {
-            let above = bits >> from;
-            let p = from + u16::trailing_zeros(above) as u8;
-            if p < Party::MAX {
-                return p;
-            }
+        let b = self.bits;
+        if b == 0 {
+            return self;
         }
-        Party::MAX
+        PartySet { bits: b & (b - 1) }
     }
 
     // The set holds only parties below n.

@@ -9,7 +9,7 @@ use lib.ListN.{length}
 use lib.Seq.{sets}
 use borrow.Author.Tests.{leb-true, leb-false, le-leb, lt-leb}
 use Rattle.stretches.proofs.StretchLaws.{sets-append}
-use Rattle.records.specs.Events.{eventBytes, heldBack, hasRoom}
+use Rattle.records.specs.Events.{eventBytes, heldBack, fitsAfter, hasRoom}
 use Rattle.records.specs.Append.{Appends, Closes}
 use Rattle.records.specs.EventLaws.{sized, event-length}
 use Rattle.records.specs.declared.events.Event.{Event}
@@ -31,24 +31,20 @@ module _ (e d : Event) (is : e ≡ d) where
   stored-is xs ys at h = rw is h
 
 -- ---- the room test
-module _ (R used : ℕ) (e : Event) where
+module _ (R used L : ℕ) where
   -- all is used, or more
-  pub full : R < used → false ≡ hasRoom R used e
-  unfolding hasRoom
-  full h = sym (lt-leb (used + length (eventBytes e) + heldBack) R (omega arith))
+  pub full : R < used → false ≡ fitsAfter R used L
+  full h = sym (lt-leb (used + L + heldBack) R (omega arith))
 
   -- the test against what is left
-  pub left-over : (n : ℕ) → n ≡ length (eventBytes e) → used ≤ R → leb (n + heldBack) (R - used) ≡ hasRoom R used e
-  unfolding hasRoom
-  left-over n l h = rw l (go (leb (L + heldBack) (R - used)) refl)
+  pub left-over : used ≤ R → leb (L + heldBack) (R - used) ≡ fitsAfter R used L
+  left-over h = go (leb (L + heldBack) (R - used)) refl
     where
-      L : ℕ
-      L = length (eventBytes e)
-
-      go : (t : Bool) → leb (L + heldBack) (R - used) ≡ t → t ≡ leb (used + L + heldBack) R
+      go : (t : Bool) → leb (L + heldBack) (R - used) ≡ t → t ≡ fitsAfter R used L
       go true q = sym (le-leb (used + L + heldBack) R (omega (arith, leb-true (L + heldBack) (R - used) q)))
       go false q = sym (lt-leb (used + L + heldBack) R (omega (arith, leb-false (L + heldBack) (R - used) q)))
 
+module _ (R used : ℕ) (e : Event) where
   -- where there is room the event fits
   pub has-fits : (t : Bool) → t ≡ hasRoom R used e → t ≡ true → used + length (eventBytes e) + heldBack ≤ R
   unfolding hasRoom

@@ -43,5 +43,8 @@ abbrev pub heldBack : ℕ
 heldBack = 10
 
 -- "An event of L bytes in kinds 1 to 5 is written only if used+L+10 is at most R"
+abbrev pub fitsAfter : (R used L : ℕ) → Bool
+fitsAfter R used L = leb (used + L + heldBack) R
+
 unfoldable pub hasRoom : (R used : ℕ) → Event → Bool
-hasRoom R used e = leb (used + length (eventBytes e) + heldBack) R
+hasRoom R used e = fitsAfter R used (length (eventBytes e))

@@ -6,7 +6,7 @@ ghost use lib.ListN.{length};
 ghost use lib.Seq.{sets};
 ghost use Rattle.words.specs.Words.{integerBytes};
 ghost use Rattle.parties.specs.SetBytes.{setBytes};
-ghost use Rattle.records.specs.Events.{eventBytes, finished, hasRoom};
+ghost use Rattle.records.specs.Events.{eventBytes, finished, heldBack, fitsAfter, hasRoom};
 ghost use Rattle.records.specs.Append.{Appends, Closes};
 use limits::Party;
 use parties::sets::PartySet;
@@ -67,15 +67,22 @@ impl Event {
         }
     }
 
-    // After the `used` bytes of a record with so much room, enough is left for the event and for the last one.
-    pub fn has_room(self, room: usize, used: usize) -> bool
-        ensures { λ r. ⌜ r ≡ hasRoom room used self ⌝ }
+    // After the `used` bytes of a record with so much room, enough is left for an event of that size and for the last one.
+    pub fn fits(size: usize, room: usize, used: usize) -> bool
+        requires { ⌜ size ≤ heldBack ⌝ }
+        ensures { λ r. ⌜ r ≡ fitsAfter room used size ⌝ }
     {
-        let n = self.size();
         if room < used {
             return false;
         }
-        n + Event::MAX <= room - used
+        size + Event::MAX <= room - used
+    }
+
+    // The same of this event.
+    pub fn has_room(self, room: usize, used: usize) -> bool
+        ensures { λ r. ⌜ r ≡ hasRoom room used self ⌝ }
+    {
+        Event::fits(self.size(), room, used)
     }
 
     // Writes the event after the `used` bytes of the record s, where it has room.

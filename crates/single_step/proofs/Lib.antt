@@ -1,3 +1,4 @@
 pub mod StepLaws
 pub mod ReadLaws
 pub mod PerformLaws
+pub mod EffectLaws

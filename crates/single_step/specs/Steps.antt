@@ -20,7 +20,9 @@ use Rattle.area.specs.Levels.{tableSize, controlOf, nextOf, DeepEnough}
 use Rattle.table.specs.Table.{PlacesIn}
 use Rattle.area.specs.declared.stand.Stand.{Stand}
 use Rattle.area.specs.declared.stand.Next.{Next}
-use Rattle.advance.specs.Advances.{Moves}
+use Rattle.advance.specs.Advances.{ruleAt, Asked, Advances, Moves}
+use Rattle.advance.specs.declared.Advanced.{Advanced}
+use Rattle.advance.specs.declared.Advanced.the-variants as Advanced′
 use Rattle.ledger.specs.Ledger.{Holds, Fits}
 use Rattle.inputs.specs.Inputs.{InputsHold}
 use Rattle.single_step.specs.declared.Entry.{Entry}
@@ -101,6 +103,16 @@ pub record Settles (room n : ℕ) (entry : Entry) (t : Stand) (y : Stepped) (byt
       → Comes y G k (t .node) (enter (record { program = p; room = room }) k (controlOf t work) b entry) (record { bytes = bytes′; lengths = lengths′; work = work′; at = at′ })
   pub table : take tableSize work′ ≡ take tableSize work
   pub deep : DeepAfter y
+
+-- a step that is no move
+abbrev pub NoMove : Advanced → Type 0
+NoMove (Advanced′.Moved next) = ⊥
+NoMove (Advanced′.Asks effect) = Unit {0}
+NoMove Advanced′.Joins = Unit {0}
+
+-- what the rule asks for where a step was no move, and so nothing was done yet
+pub record EffectOf (bs : List ℕ) (nodes : ℕ) (y : Advanced) (t : Stand) (r : Effect) (w : List ℕ) : Type 0 where
+  pub asks : (v : List ℕ) → Advances Whole bs nodes t y v w → NoMove y → (r ≡ ruleAt Whole bs nodes t v) × Asked r × (w ≡ v)
 
 -- one step of a good program's run
 pub record StepsOn (bs : List ℕ) (nodes room n : ℕ) (is : List ℤ) (end : List ℕ) (t : Stand) (y : Stepped) (l l′ : Lists) : Type 0 where

@@ -5,7 +5,7 @@ ghost use lib.ListN.{length};
 ghost use Rattle.limits.specs.Limits.{maxParties, maxFrames};
 ghost use Rattle.parties.specs.Sets.{count};
 ghost use Rattle.area.specs.Rows.{rowSize};
-ghost use Rattle.single_step.specs.Steps.{Arrives, Moved, EntryOf, Settles, Strides};
+ghost use Rattle.single_step.specs.Steps.{Arrives, Moved, EntryOf, Settles, EffectOf, Strides};
 ghost use Rattle.rules.specs.RunLaws.{Sound};
 ghost use Rattle.advance.specs.Advances.{Asked};
 use advance::Advanced;
@@ -18,6 +18,7 @@ use records::events::Event;
 use rules::effects::Effect;
 use rules::effects::Move;
 use rules::effects::Offer;
+use rules::effects::View;
 use values::value::Value;
 
 pub enum Stepped {
@@ -126,6 +127,21 @@ fn entry_of(effect: Effect, m: PartySet, inputs: &[i32], at: &mut [usize], end: 
     }
 }
 
+// What the rule asks for besides a move, where the loop over moves was left: of a move nothing is left to do.
+fn effect_of(advanced: Advanced, program: &[u8], nodes: usize, t: Stand, w: &[u8]) -> Effect
+    requires { ⌜ (t .depth .frames ≤ maxFrames) × (rowSize ≤ length (now w)) ⌝ }
+    ensures { λ r. ⌜ EffectOf (now (program .entry)) nodes advanced t r (now (w .entry)) ⌝ }
+{
+    match advanced {
+        Advanced::Moved(_) => Effect::Reads,
+        Advanced::Asks(effect) => effect,
+        Advanced::Joins => {
+            let node = table::joint_node(program, nodes, w, t.node);
+            lookup::joint_effect(View::Whole, node, t, w)
+        }
+    }
+}
+
 // Some moves, the node that they led to, and what the step from there came to.
 pub struct Stride {
     pub moves: u32,
@@ -156,15 +172,12 @@ pub fn step(
     let stand = gone.stand;
     let node = stand.node;
     let advanced = gone.came;
-    match advanced {
-        Advanced::Moved(next) => {
-            let came = arrive(next, n, room, bytes, lengths);
-            Stride { moves, node, came }
-        }
-        Advanced::Asks(effect) => {
-            let entry = entry_of(effect, stand.mode, inputs, at, end);
-            let came = settled(entry, stand, n, room, bytes, lengths, work);
-            Stride { moves, node, came }
-        }
-    }
+    let Advanced::Moved(next) = advanced else {
+        let effect = effect_of(advanced, program, nodes, stand, work);
+        let entry = entry_of(effect, stand.mode, inputs, at, end);
+        let came = settled(entry, stand, n, room, bytes, lengths, work);
+        return Stride { moves, node, came };
+    };
+    let came = arrive(next, n, room, bytes, lengths);
+    Stride { moves, node, came }
 }

@@ -1,93 +1,89 @@
--- What a site is asked to do, from what its node's rule says and from its room, and which rules ask for a meeting. Assumes nothing.
-use mathlib.Core.Path.{_≡_, refl, sym, ap, _∙_}
-use mathlib.Core.Bool.{Bool, true, false, cond, _&&_, Bool·beq}
+-- What a site is asked to do, from what its node's rule says and from its room. Assumes nothing.
+use mathlib.Core.Path.{_≡_, refl, sym, ap, _∙_, subst}
+use mathlib.Core.Bool.{Bool, true, false}
 use mathlib.Core.List.{List, [], _∷_}
 use mathlib.Core.Option.{some}
 use Prim.Native.Nat.{ℕ}
 use native.Mathlib.Omega.{arith}
 use denote.Enum.{Declared.tagOf}
 use types.Run.{OneOf, miss}
-use lib.IntN.{ℤ, pos}
-use lib.ListN.{length}
-use Rattle.numbers.specs.Integers.{operate}
-use Rattle.limits.specs.declared.Name.{Name}
+use lib.IntN.{pos}
 use Rattle.limits.specs.declared.Party.{Party}
 use Rattle.parties.specs.declared.sets.PartySet.{PartySet}
-use Rattle.values.specs.Values.{held}
-use Rattle.values.specs.declared.value.Value.{Value}
-use Rattle.values.specs.declared.value.Held.{Held}
-use Rattle.values.specs.declared.value.Held.the-variants.{Number, Other}
-use Rattle.program.specs.Check.{Program, good, checked, nodeAt}
-use Rattle.nodes.specs.Nodes.{operationOf, jointNode}
+use Rattle.program.specs.Check.{Program, nodeAt}
+use Rattle.nodes.specs.Nodes.{jointNode, IsJoint}
 use Rattle.nodes.specs.declared.Node.{Node}
-use Rattle.nodes.specs.declared.Node.the-variants.{VAR, INT, OP, MUX, READ, WRITE, EMBED, SHARE, REVEAL, LET, CASE, PAR, CALL}
+use Rattle.nodes.specs.declared.Node.the-variants.{SHARE, REVEAL}
 use Rattle.nodes.specs.declared.JointNode.{JointNode}
+use Rattle.nodes.specs.declared.JointNode.the-variants.{SHARE as SHARE′, REVEAL as REVEAL′, Neither}
 use Rattle.records.specs.Events.{hasRoom}
-use Rattle.refusals.specs.Numbers.{wrongValue, wrongMode, noRoom}
+use Rattle.refusals.specs.Numbers.{noRoom}
 use Rattle.rules.specs.Books.{Book, used, eventOf, eventFor, roomFor}
 use Rattle.rules.specs.Moves.{Control}
-use Rattle.rules.specs.Names.{Names, Looked, found, unbound, look, lookAll, namesOf, first, second, third}
-use Rattle.rules.specs.Rules.{unless, onTwo, onThree, mux, ifClear, atShare, atReveal, goesIn, judge, withValues, rule}
-use Rattle.rules.specs.Rules.{alone as alone′}
+use Rattle.rules.specs.Names.{Names}
+use Rattle.rules.specs.Rules.{rule}
 use Rattle.rules.specs.Single.{Setting}
 use Rattle.rules.specs.Joint.{performOwn, own, acts}
-use Rattle.rules.specs.Joint.{Site as Site′}
 use Rattle.rules.specs.declared.effects.View.{View}
 use Rattle.rules.specs.declared.effects.View.the-variants.{Site}
 use Rattle.rules.specs.declared.effects.Meeting.{Meeting}
 use Rattle.rules.specs.declared.effects.Offer.{Offer}
 use Rattle.rules.specs.declared.effects.Effect.{Effect}
 use Rattle.rules.specs.declared.effects.Effect.the-variants.{Refuse, Goes, Reads, Writes, Meets}
-use Rattle.rules.specs.declared.bindings.Binding.{Binding}
 use Rattle.rules.proofs.effects.Effect.{the-type}
-use Rattle.lookup.specs.Lookup.{soughtOf}
-use Rattle.lookup.specs.declared.Sought.the-variants as Sought′
-use Rattle.lookup.specs.declared.Sought.the-variants.{Found}
-use Rattle.lookup.proofs.LookupLaws.{found-is, missing-is}
+use Rattle.lookup.specs.Lookup.{jointRule, Unmet}
+use Rattle.lookup.proofs.JointLaws.{joint-rule, unmet}
 use Rattle.area.specs.Levels.{namesAt, controlOf}
-use Rattle.table.specs.Table.{PlacesIn, nodeBy}
 use Rattle.area.specs.declared.stand.Stand.{Stand}
-use Rattle.table.proofs.TableLaws.{node-by}
-use Rattle.advance.specs.Advances.{ruleAt, Asked}
-use Rattle.site.specs.Own.{acted, Alone, AskedOwn, Weighs, Owns, meetingOf, meetingAt, Invites}
+use Rattle.advance.specs.Advances.{ruleOf, Asked}
+use Rattle.advance.proofs.AdvanceLaws.{joint-asked}
+use Rattle.site.specs.Own.{acted, ownOf, Weighs, Owns, meetingOf, Invites}
 use Rattle.site.specs.declared.own.Own.{Own}
 use Rattle.site.specs.declared.own.Own.the-variants.{Acts, Attends}
 use Rattle.site.specs.declared.own.Invitation.{Invitation}
 use Rattle.site.specs.declared.own.Invitation.the-variants.{Not, To}
 
--- what is left once it is no meeting
-abbrev pub NoMeeting : Effect → Type 0
-NoMeeting effect = OneOf (0 ∷ 1 ∷ 2 ∷ 3 ∷ []) (tagOf the-type effect)
+-- ---- an effect that is no meeting
+pub no-meeting : (effect : Effect) → OneOf (0 ∷ 1 ∷ 2 ∷ 3 ∷ []) (tagOf the-type effect) → Unmet effect
+no-meeting (Refuse r) h = tt
+no-meeting (Goes mv) h = tt
+no-meeting Reads h = tt
+no-meeting (Writes i) h = tt
+no-meeting (Meets mt o) h = miss (0 ∷ 1 ∷ 2 ∷ 3 ∷ []) 4 tt h
 
-acts-alone : (S : Setting) (P : ℕ) (c : Control) (b : Book) (effect : Effect) → NoMeeting effect → performOwn S P c b effect ≡ acts (acted S P c b effect)
+pub not-met : (effect : Effect) → Unmet effect → Not ≡ meetingOf effect
+not-met (Refuse r) h = refl
+not-met (Goes mv) h = refl
+not-met Reads h = refl
+not-met (Writes i) h = refl
+not-met (Meets mt o) h = absurd h
+
+invites-none : (effect : Effect) → Not ≡ meetingOf effect → Unmet effect
+invites-none (Refuse r) h = tt
+invites-none (Goes mv) h = tt
+invites-none Reads h = tt
+invites-none (Writes i) h = tt
+invites-none (Meets mt o) h = let z : _≡_ {A = ℕ} 0 1 = cc in omega arith
+
+is-meeting : (mt : Meeting) (o : Offer) (effect : Effect) → To mt o ≡ meetingOf effect → effect ≡ Meets mt o
+is-meeting mt o (Refuse r) h = absurd (let z : _≡_ {A = ℕ} 0 1 = cc in omega arith)
+is-meeting mt o (Goes mv) h = absurd (let z : _≡_ {A = ℕ} 0 1 = cc in omega arith)
+is-meeting mt o Reads h = absurd (let z : _≡_ {A = ℕ} 0 1 = cc in omega arith)
+is-meeting mt o (Writes i) h = absurd (let z : _≡_ {A = ℕ} 0 1 = cc in omega arith)
+is-meeting mt o (Meets nt p) h = cc
+
+acts-alone : (S : Setting) (P : ℕ) (c : Control) (b : Book) (effect : Effect) → Unmet effect → performOwn S P c b effect ≡ acts (acted S P c b effect)
 unfolding performOwn acted
 acts-alone S P c b (Refuse r) h = refl
 acts-alone S P c b (Goes mv) h = refl
 acts-alone S P c b Reads h = refl
 acts-alone S P c b (Writes i) h = refl
-acts-alone S P c b (Meets mt o) h = absurd (miss (0 ∷ 1 ∷ 2 ∷ 3 ∷ []) 4 tt h)
-
-alone : (effect : Effect) → NoMeeting effect → Alone (Acts effect)
-alone (Refuse r) h = tt
-alone (Goes mv) h = tt
-alone Reads h = tt
-alone (Writes i) h = tt
-alone (Meets mt o) h = miss (0 ∷ 1 ∷ 2 ∷ 3 ∷ []) 4 tt h
-
-pub not-met : (effect : Effect) → NoMeeting effect → Not ≡ meetingOf effect
-not-met (Refuse r) h = refl
-not-met (Goes mv) h = refl
-not-met Reads h = refl
-not-met (Writes i) h = refl
-not-met (Meets mt o) h = absurd (miss (0 ∷ 1 ∷ 2 ∷ 3 ∷ []) 4 tt h)
-
-same-asked : (effect : Effect) → Asked effect → AskedOwn (Acts effect)
-same-asked effect h = h
+acts-alone S P c b (Meets mt o) h = absurd h
 
 -- ---- an effect, weighed
 module _ (P : ℕ) (effect : Effect) (room u : ℕ) where
-  pub weighs-acts : NoMeeting effect → Weighs P effect room u (Acts effect)
-  weighs-acts h = record { comes = λ p c b q. acts-alone (record { program = p; room = room }) P c b effect h; alone = alone effect h; asked = same-asked effect }
+  pub weighs-acts : Unmet effect → Weighs P effect room u (Acts effect)
+  weighs-acts h = record { comes = λ p c b q. acts-alone (record { program = p; room = room }) P c b effect h; alone = h; asked = λ k. k }
 
   -- a meeting, by whether there is room for what the site writes of it
   module _ (mt : Meeting) (o : Offer) (meets : effect ≡ Meets mt o) (has : Bool) (room-is : has ≡ hasRoom room u (eventFor P (eventOf mt (pos 0)))) where
@@ -103,117 +99,68 @@ module _ (P : ℕ) (effect : Effect) (room u : ℕ) where
     unfolding performOwn acted
     weighs-lacks h = record { comes = λ p c b q. rw (meets, room-of b q, h); alone = tt; asked = λ k. tt }
 
--- ---- which rules ask for a meeting
-unless-not : (refusal : ℕ) (t : Bool) (e : Effect) → Not ≡ meetingOf e → Not ≡ meetingOf (unless refusal t e)
-unless-not refusal true e h = h
-unless-not refusal false e h = refl
+-- ---- what the rule of a joint node asks for
 
-two-not : (m : PartySet) (f : ℤ → ℤ → ℤ) (g h : Held) → Not ≡ meetingOf (onTwo m f g h)
-two-not m f (Number s i) (Number t j) = unless-not wrongValue (Bool·beq s t) _ refl
-two-not m f (Number s i) Other = refl
-two-not m f Other h = refl
-
-three-not : (m : PartySet) (f : ℤ → ℤ → ℤ → ℤ) (g h k : Held) → Not ≡ meetingOf (onThree m f g h k)
-three-not m f (Number s i) (Number t j) (Number u k) = unless-not wrongValue (Bool·beq s t && Bool·beq s u) _ refl
-three-not m f (Number s i) (Number t j) Other = refl
-three-not m f (Number s i) Other h = refl
-three-not m f Other g h = refl
-
-clear-not : (h : Held) (k : ℤ → Effect) → ((i : ℤ) → Not ≡ meetingOf (k i)) → Not ≡ meetingOf (ifClear h k)
-clear-not (Number true i) k b = refl
-clear-not (Number false i) k b = b i
-clear-not Other k b = refl
-
-either-not : (t : Bool) (e f : Effect) → Not ≡ meetingOf e → Not ≡ meetingOf f → Not ≡ meetingOf (cond t e f)
-either-not true e f g h = g
-either-not false e f g h = h
-
-rule-not : (view : View) (e : Node) (m : PartySet) (b : Names) → ((vs : List Value) → Not ≡ meetingOf (judge view e m vs)) → Not ≡ meetingOf (rule view e m b)
-unfolding rule
-rule-not view e m b n = go (lookAll m b (namesOf e))
+-- to know of a meeting it is enough to know the joint node
+same-meeting : (view : View) (n : Node) (m : PartySet) (b : Names) → meetingOf (jointRule view (jointNode n) m b) ≡ meetingOf (rule view n m b)
+same-meeting view n m b = go (jointNode n) refl
   where
-    go : (r : Looked) → Not ≡ meetingOf (withValues r λ vs. judge view e m vs)
-    go (found vs) = n vs
-    go (unbound x) = refl
+    joint : (j : JointNode) → jointNode n ≡ j → IsJoint j → meetingOf (jointRule view j m b) ≡ meetingOf (rule view n m b)
+    joint j e h = ap meetingOf (rw e at (joint-rule view n m b (rw e h)))
 
--- so it is enough to know the joint node
-asks-at : (view : View) (e : Node) (m : PartySet) (b : Names) → meetingAt view (jointNode e) m b ≡ meetingOf (rule view e m b)
-unfolding judge jointNode
-asks-at view (VAR x) m b = rule-not view (VAR x) m b (λ vs. refl)
-asks-at view (INT i) m b = rule-not view (INT i) m b (λ vs. refl)
-asks-at view (OP o x y) m b = rule-not view (OP o x y) m b (λ vs. two-not m (operate (operationOf o)) (held m (first vs)) (held m (second vs)))
-asks-at view (MUX x y z) m b = rule-not view (MUX x y z) m b (λ vs. three-not m mux (held m (first vs)) (held m (second vs)) (held m (third vs)))
-asks-at view READ m b = rule-not view READ m b (λ vs. unless-not wrongMode (alone′ m) Reads refl)
-asks-at view (WRITE x) m b = rule-not view (WRITE x) m b (λ vs. clear-not (held m (first vs)) _ (λ i. unless-not wrongMode (alone′ m) (Writes i) refl))
-asks-at view (EMBED x) m b = rule-not view (EMBED x) m b (λ vs. clear-not (held m (first vs)) _ (λ i. refl))
-asks-at view (SHARE a q x) m b = refl
-asks-at view (REVEAL q x) m b = refl
-asks-at view (LET x e1 e2) m b = rule-not view (LET x e1 e2) m b (λ vs. refl)
-asks-at view (CASE x e1 e2) m b = rule-not view (CASE x e1 e2) m b (λ vs. clear-not (held m (first vs)) _ (λ i. refl))
-asks-at view (PAR p e) m b = rule-not view (PAR p e) m b (λ vs. either-not (goesIn view m p) _ _ refl refl)
-asks-at view (CALL f x) m b = rule-not view (CALL f x) m b (λ vs. refl)
-
-pub meeting-asked : (view : View) (bs : List ℕ) (nodes : ℕ) (t : Stand) (w : List ℕ) {joint : JointNode} {r : Invitation} → joint ≡ jointNode (nodeBy bs nodes w (t .node))
-    → r ≡ meetingAt view joint (t .mode) (namesAt w (t .depth .frames)) → r ≡ meetingOf (ruleAt view bs nodes t w)
-meeting-asked view bs nodes t w e h = h ∙ ap (λ (j : JointNode). meetingAt view j (t .mode) (namesAt w (t .depth .frames))) e ∙ asks-at view (nodeBy bs nodes w (t .node)) (t .mode) (namesAt w (t .depth .frames))
-
--- ---- SHARE and REVEAL, by what their one name is bound to
-module _ (view : View) (m : PartySet) (b : Names) (x : Name) where
-  pub share-bound : (a : Party) (q : PartySet) (v : Binding) → Found v ≡ soughtOf x (look m b x) → rule view (SHARE a q x) m b ≡ atShare view m a q (v .value)
-  unfolding rule namesOf lookAll judge
-  share-bound a q v h = rw (found-is x (look m b x) v (sym h))
-
-  pub share-unbound : (a : Party) (q : PartySet) (y : Name) → Sought′.Unbound y ≡ soughtOf x (look m b x) → Not ≡ meetingOf (rule view (SHARE a q x) m b)
-  unfolding rule namesOf lookAll
-  share-unbound a q y h = rw (missing-is x (look m b x) y (sym h))
-
-  pub reveal-bound : (q : PartySet) (v : Binding) → Found v ≡ soughtOf x (look m b x) → rule view (REVEAL q x) m b ≡ atReveal view m q (v .value)
-  unfolding rule namesOf lookAll judge
-  reveal-bound q v h = rw (found-is x (look m b x) v (sym h))
-
-  pub reveal-unbound : (q : PartySet) (y : Name) → Sought′.Unbound y ≡ soughtOf x (look m b x) → Not ≡ meetingOf (rule view (REVEAL q x) m b)
-  unfolding rule namesOf lookAll
-  reveal-unbound q y h = rw (missing-is x (look m b x) y (sym h))
+    go : (j : JointNode) → jointNode n ≡ j → meetingOf (jointRule view j m b) ≡ meetingOf (rule view n m b)
+    go (SHARE′ a q x) e = joint (SHARE′ a q x) e tt
+    go (REVEAL′ q x) e = joint (REVEAL′ q x) e tt
+    go Neither e = not-met (rule view n m b) (unmet view n m b e)
 
 -- ---- a site that stands at t
--- no meeting: it acts
-lone : (S : Setting) (P : ℕ) (c : Control) (b : Book) (effect : Effect) → Not ≡ meetingOf effect → (s : Site′) × (performOwn S P c b effect ≡ acts s)
-unfolding performOwn
-lone S P c b (Refuse r) h = (_, refl)
-lone S P c b (Goes mv) h = (_, refl)
-lone S P c b Reads h = (_, refl)
-lone S P c b (Writes i) h = (_, refl)
-lone S P c b (Meets mt o) h = absurd (let z : _≡_ {A = ℕ} 0 1 = cc in omega arith)
-
-is-meeting : (mt : Meeting) (o : Offer) (effect : Effect) → To mt o ≡ meetingOf effect → effect ≡ Meets mt o
-is-meeting mt o (Refuse r) h = absurd (let z : _≡_ {A = ℕ} 0 1 = cc in omega arith)
-is-meeting mt o (Goes mv) h = absurd (let z : _≡_ {A = ℕ} 0 1 = cc in omega arith)
-is-meeting mt o Reads h = absurd (let z : _≡_ {A = ℕ} 0 1 = cc in omega arith)
-is-meeting mt o (Writes i) h = absurd (let z : _≡_ {A = ℕ} 0 1 = cc in omega arith)
-is-meeting mt o (Meets nt p) h = cc
-
-module _ (bs : List ℕ) (nodes : ℕ) (P : Party) (t : Stand) (room u : ℕ) (w : List ℕ) (effect : Effect)
-    (asks : effect ≡ ruleAt (Site P) bs nodes t w) where
-  asked-is : (p : Program) → checked bs ≡ good p → length (p .nodes) ≡ nodes → PlacesIn bs nodes w → (b : Book)
-      → own (record { program = p; room = room }) (P .index) (controlOf t w) b ≡ performOwn (record { program = p; room = room }) (P .index) (controlOf t w) b effect
+module _ (P : Party) (t : Stand) (room u : ℕ) (w : List ℕ) where
+  -- what it does at its node of the program p
+  pub owned : (effect : Effect) (r : Own) (p : Program) (b : Book) → effect ≡ ruleOf (Site P) (nodeAt p (t .node)) t w → Weighs (P .index) effect room u r → used b ≡ u
+      → own (record { program = p; room = room }) (P .index) (controlOf t w) b ≡ ownOf (record { program = p; room = room }) (P .index) (controlOf t w) b r
   unfolding own controlOf
-  asked-is p g len places b =
-      let n : nodeAt p (t .node) ≡ nodeBy bs nodes w (t .node) = rw (← len) (sym (node-by bs p w (t .node) g (rw len places))) in
-      rw (n, ← asks)
+  owned effect r p b asks k q = rw (← asks) (k .comes p (controlOf t w) b q)
 
-  pub owned : (r : Own) → Weighs (P .index) effect room u r → Owns bs nodes P t room u r w
-  owned r k = record { comes = λ p g len places b o. asked-is p g len places b ∙ k .comes p (controlOf t w) b o; alone = k .alone }
+  module _ (node : JointNode) where
+    pub owns : (effect : Effect) (r : Own) → effect ≡ jointRule (Site P) node (t .mode) (namesAt w (t .depth .frames)) → Weighs (P .index) effect room u r → Owns node P t room u r w
+    owns effect r asks k =
+        record {
+          comes = λ p same joint b q.
+              let n : Node = nodeAt p (t .node) in
+              let a : jointRule (Site P) node (t .mode) (namesAt w (t .depth .frames)) ≡ ruleOf (Site P) n t w
+              = rw same (joint-rule (Site P) n (t .mode) (namesAt w (t .depth .frames)) (rw same at joint)) in
+              owned effect r p b (asks ∙ a) k q;
+          alone = k .alone;
+          asked = k .asked (subst Asked (sym asks) (joint-asked (Site P) node (t .mode) (namesAt w (t .depth .frames))));
+        }
 
-  pub invites-not : Not ≡ meetingOf effect → Invites bs nodes P t room u Not w
-  invites-not h = record { comes = λ p g len places b o. let z = lone (record { program = p; room = room }) (P .index) (controlOf t w) b effect h in (z .0, asked-is p g len places b ∙ z .1) }
+    module _ (i : Invitation) (asks : i ≡ meetingOf (jointRule (Site P) node (t .mode) (namesAt w (t .depth .frames)))) where
+      invited-as : (p : Program) → node ≡ jointNode (nodeAt p (t .node)) → i ≡ meetingOf (ruleOf (Site P) (nodeAt p (t .node)) t w)
+      invited-as p same = (rw same at asks) ∙ same-meeting (Site P) (nodeAt p (t .node)) (t .mode) (namesAt w (t .depth .frames))
 
-  module _ (mt : Meeting) (o : Offer) (meets : To mt o ≡ meetingOf effect) (has : Bool) (room-is : has ≡ hasRoom room u (eventFor (P .index) (eventOf mt (pos 0)))) where
-    pub invites-to : has ≡ true → Invites bs nodes P t room u (To mt o) w
-    invites-to h =
-        let k = owned (Attends mt o) (weighs-attends (P .index) effect room u mt o (is-meeting mt o effect meets) has room-is h) in
-        record { comes = λ p g len places b q. k .comes p g len places b q }
+      pub invites-not : i ≡ Not → Invites node P t room u Not w
+      invites-not h =
+          record {
+            comes = λ p same b q.
+                let effect : Effect = ruleOf (Site P) (nodeAt p (t .node)) t w in
+                let none : Unmet effect = invites-none effect (sym h ∙ invited-as p same) in
+                (_, owned effect (Acts effect) p b refl (weighs-acts (P .index) effect room u none) q);
+          }
 
-    pub invites-lacks : has ≡ false → Invites bs nodes P t room u Not w
-    invites-lacks h =
-        let k = owned (Acts (Refuse noRoom)) (weighs-lacks (P .index) effect room u mt o (is-meeting mt o effect meets) has room-is h) in
-        record { comes = λ p g len places b q. (_, k .comes p g len places b q) }
+      module _ (mt : Meeting) (o : Offer) (meets : i ≡ To mt o) (has : Bool) (room-is : has ≡ hasRoom room u (eventFor (P .index) (eventOf mt (pos 0)))) where
+        meets-at : (p : Program) → node ≡ jointNode (nodeAt p (t .node)) → ruleOf (Site P) (nodeAt p (t .node)) t w ≡ Meets mt o
+        meets-at p same = is-meeting mt o (ruleOf (Site P) (nodeAt p (t .node)) t w) (sym meets ∙ invited-as p same)
+
+        pub invites-to : has ≡ true → Invites node P t room u (To mt o) w
+        invites-to h =
+            record {
+              comes = λ p same b q.
+                  owned (Meets mt o) (Attends mt o) p b (sym (meets-at p same)) (weighs-attends (P .index) (Meets mt o) room u mt o refl has room-is h) q;
+            }
+
+        pub invites-lacks : has ≡ false → Invites node P t room u Not w
+        invites-lacks h =
+            record {
+              comes = λ p same b q.
+                  (_, owned (Meets mt o) (Acts (Refuse noRoom)) p b (sym (meets-at p same)) (weighs-lacks (P .index) (Meets mt o) room u mt o refl has room-is h) q);
+            }

@@ -4,29 +4,23 @@ use Prim.Native.Nat.{ℕ}
 use mathlib.Core.List.{List}
 use mathlib.Core.Option.{none, some}
 use lib.IntN.{pos}
-use lib.ListN.{length}
 use Rattle.limits.specs.declared.Party.{Party}
-use Rattle.parties.specs.declared.sets.PartySet.{PartySet}
 use Rattle.values.specs.declared.value.Value.the-variants.{Clear}
-use Rattle.nodes.specs.declared.Node.the-variants.{SHARE, REVEAL}
+use Rattle.nodes.specs.Nodes.{jointNode, IsJoint}
 use Rattle.nodes.specs.declared.JointNode.{JointNode}
-use Rattle.nodes.specs.declared.JointNode.the-variants.{SHARE as SHARE′, REVEAL as REVEAL′, Neither}
-use Rattle.program.specs.Check.{Program, good, checked}
+use Rattle.program.specs.Check.{Program, nodeAt}
 use Rattle.records.specs.declared.events.Event.the-variants.{Wrote}
 use Rattle.rules.specs.Books.{Book, used}
 use Rattle.rules.specs.Moves.{Control}
-use Rattle.rules.specs.Names.{Names}
-use Rattle.rules.specs.Rules.{rule}
 use Rattle.rules.specs.Single.{Setting}
 use Rattle.rules.specs.Joint as Joint
 use Rattle.rules.specs.Joint.{Site, running, stop, settle, readOwn, performOwn, own, acts, attends}
-use Rattle.rules.specs.declared.effects.View.{View}
 use Rattle.rules.specs.declared.effects.Move.the-variants.{Hand}
 use Rattle.rules.specs.declared.effects.Effect.{Effect}
 use Rattle.rules.specs.declared.effects.Effect.the-variants.{Refuse, Goes, Reads, Writes, Meets}
 use Rattle.area.specs.Levels.{controlOf}
-use Rattle.table.specs.Table.{PlacesIn}
 use Rattle.area.specs.declared.stand.Stand.{Stand}
+use Rattle.lookup.specs.Lookup.{Unmet}
 use Rattle.advance.specs.Advances.{Asked}
 use Rattle.site.specs.declared.own.Own.{Own}
 use Rattle.site.specs.declared.own.Own.the-variants.{Acts, Attends}
@@ -48,11 +42,7 @@ ownOf S P c b (Attends mt o) = attends mt o
 
 -- a site meets nobody by itself
 abbrev pub Alone : Own → Type 0
-Alone (Acts (Refuse refusal)) = Unit {0}
-Alone (Acts (Goes mv)) = Unit {0}
-Alone (Acts Reads) = Unit {0}
-Alone (Acts (Writes i)) = Unit {0}
-Alone (Acts (Meets mt o)) = ⊥
+Alone (Acts effect) = Unmet effect
 Alone (Attends mt o) = Unit {0}
 
 -- what is done by itself is no move: control moves before
@@ -66,11 +56,12 @@ pub record Weighs (P : ℕ) (effect : Effect) (room length′ : ℕ) (r : Own) :
   pub alone : Alone r
   pub asked : Asked effect → AskedOwn r
 
--- the answer r to what site P, which stands at t, is asked to do, by the bytes w of its area and the length of its record
-pub record Owns (bs : List ℕ) (nodes : ℕ) (P : Party) (t : Stand) (room length′ : ℕ) (r : Own) (w : List ℕ) : Type 0 where
-  pub comes : (p : Program) → checked bs ≡ good p → length (p .nodes) ≡ nodes → PlacesIn bs nodes w → (b : Book) → used b ≡ length′
+-- the answer r to what site P, which stands at t, is asked to do at a joint node, by the bytes w of its area and the length of its record
+pub record Owns (node : JointNode) (P : Party) (t : Stand) (room length′ : ℕ) (r : Own) (w : List ℕ) : Type 0 where
+  pub comes : (p : Program) → node ≡ jointNode (nodeAt p (t .node)) → IsJoint node → (b : Book) → used b ≡ length′
       → own (record { program = p; room = room }) (P .index) (controlOf t w) b ≡ ownOf (record { program = p; room = room }) (P .index) (controlOf t w) b r
   pub alone : Alone r
+  pub asked : AskedOwn r
 
 -- the meeting that an effect is, if it is one
 abbrev pub meetingOf : Effect → Invitation
@@ -80,18 +71,12 @@ meetingOf Reads = Not
 meetingOf (Writes i) = Not
 meetingOf (Meets mt o) = To mt o
 
--- the meeting that the rule of a joint node asks for; no other rule asks for one
-abbrev pub meetingAt : View → JointNode → PartySet → Names → Invitation
-meetingAt view (SHARE′ a q x) m b = meetingOf (rule view (SHARE a q x) m b)
-meetingAt view (REVEAL′ q x) m b = meetingOf (rule view (REVEAL q x) m b)
-meetingAt view Neither m b = Not
-
 -- what it says of a site that it is invited or not
 abbrev pub Says : Invitation → Joint.Own → Type 0
 Says Not x = (s : Site) × (x ≡ acts s)
 Says (To mt o) x = x ≡ attends mt o
 
--- the answer r to whether site P, which stands at t, passes its own checks at a joint node
-pub record Invites (bs : List ℕ) (nodes : ℕ) (P : Party) (t : Stand) (room length′ : ℕ) (r : Invitation) (w : List ℕ) : Type 0 where
-  pub comes : (p : Program) → checked bs ≡ good p → length (p .nodes) ≡ nodes → PlacesIn bs nodes w → (b : Book) → used b ≡ length′
+-- the answer r to whether site P, which stands at t, passes its own checks at a node, by the bytes w of its area and the length of its record
+pub record Invites (node : JointNode) (P : Party) (t : Stand) (room length′ : ℕ) (r : Invitation) (w : List ℕ) : Type 0 where
+  pub comes : (p : Program) → node ≡ jointNode (nodeAt p (t .node)) → (b : Book) → used b ≡ length′
       → Says r (own (record { program = p; room = room }) (P .index) (controlOf t w) b)

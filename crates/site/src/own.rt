@@ -8,7 +8,8 @@ ghost use Rattle.records.specs.Events.{hasRoom};
 ghost use Rattle.rules.specs.Books.{eventOf, eventFor};
 ghost use Rattle.area.specs.Rows.{rowSize};
 ghost use Rattle.area.specs.Levels.{namesAt};
-ghost use Rattle.site.specs.Own.{meetingOf, meetingAt, Weighs, Invites};
+ghost use Rattle.lookup.specs.Lookup.{jointRule};
+ghost use Rattle.site.specs.Own.{Weighs, Owns, meetingOf, Invites};
 use area::stand::Stand;
 use limits::Party;
 use lookup::Sought;
@@ -32,7 +33,7 @@ fn room_for(p: Party, mt: Meeting, room: usize, used: usize) -> bool
 }
 
 // What site p does of what its rule asks for. A meeting whose event has no room in its own record is a refusal.
-pub fn weighed(effect: Effect, p: Party, room: usize, used: usize) -> Own
+fn weighed(effect: Effect, p: Party, room: usize, used: usize) -> Own
     ensures { λ r. ⌜ Weighs (p .index) effect room used r ⌝ }
 {
     let Effect::Meets(mt, offer) = effect else {
@@ -42,6 +43,15 @@ pub fn weighed(effect: Effect, p: Party, room: usize, used: usize) -> Own
         return Own::Attends(mt, offer);
     }
     Own::Acts(Effect::Refuse(refusals::NO_ROOM))
+}
+
+// What site p, which stands at t, is to do at a joint node.
+pub fn own_at(node: JointNode, p: Party, t: Stand, room: usize, used: usize, area: &[u8]) -> Own
+    requires { ⌜ (t .depth .frames ≤ maxFrames) × (rowSize ≤ length (now area)) ⌝ }
+    ensures { λ r. ⌜ Owns node p t room used r (now (area .entry)) ⌝ }
+{
+    let effect = lookup::joint_effect(View::Site(p), node, t, area);
+    weighed(effect, p, room, used)
 }
 
 // The meeting that a site attends.
@@ -62,7 +72,7 @@ fn meeting_of(effect: Effect) -> Invitation
 // The meeting that the rule of a joint node asks site p for.
 fn meeting(p: Party, node: JointNode, t: Stand, area: &[u8]) -> Invitation
     requires { ⌜ (t .depth .frames ≤ maxFrames) × (rowSize ≤ length (now area)) ⌝ }
-    ensures { λ r. ⌜ r ≡ meetingAt (View.Site p) node (t .mode) (namesAt (now (area .entry)) (t .depth .frames)) ⌝ }
+    ensures { λ r. ⌜ r ≡ meetingOf (jointRule (View.Site p) node (t .mode) (namesAt (now (area .entry)) (t .depth .frames))) ⌝ }
 {
     let m = t.mode;
     let depth = t.depth;
@@ -87,8 +97,7 @@ fn meeting(p: Party, node: JointNode, t: Stand, area: &[u8]) -> Invitation
 
 // Whether site p, which stands at t, passes its own checks at a joint node.
 pub fn invited(
-    program: &[u8],
-    nodes: usize,
+    node: JointNode,
     p: Party,
     t: Stand,
     room: usize,
@@ -96,9 +105,8 @@ pub fn invited(
     area: &[u8],
 ) -> Invitation
     requires { ⌜ (t .depth .frames ≤ maxFrames) × (rowSize ≤ length (now area)) ⌝ }
-    ensures { λ r. ⌜ Invites (now (program .entry)) nodes p t room used r (now (area .entry)) ⌝ }
+    ensures { λ r. ⌜ Invites node p t room used r (now (area .entry)) ⌝ }
 {
-    let node = table::joint_node(program, nodes, area, t.node);
     let Invitation::To(mt, offer) = meeting(p, node, t, area) else {
         return Invitation::Not;
     };

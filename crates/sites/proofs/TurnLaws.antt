@@ -4,12 +4,14 @@ use mathlib.Core.Bool.{Bool, true, false}
 use mathlib.Core.List.{List, [], _∷_, _++_}
 use Prim.Native.Nat.{ℕ, _+_, _-_, _*_, _≤_, _<_}
 use native.Mathlib.Omega.{arith}
-use types.Run.{hit}
 use lib.IntN.{ℤ}
 use lib.ListN.{length, getD, set, take, drop}
 use lib.Seq.{set-getD, take-at, drop-at, length-take-le}
-use Rattle.limits.specs.Limits.{maxFrames}
-use Rattle.rules.specs.Books.{Book}
+use Rattle.nodes.specs.Nodes.{jointNode, IsJoint}
+use Rattle.nodes.specs.declared.Node.{Node}
+use Rattle.nodes.specs.declared.JointNode.{JointNode}
+use Rattle.program.specs.Check.{Program, good, checked, nodeAt}
+use Rattle.rules.specs.Books.{Book, used}
 use Rattle.rules.specs.Moves.{Control, on}
 use Rattle.area.specs.Rows.{rowSize, row, areaOf, back}
 use Rattle.rules.specs.Single.{Setting}
@@ -29,10 +31,13 @@ use Rattle.area.specs.declared.stand.Next.the-variants.{On, Ends, Full}
 use Rattle.seats.specs.declared.Seat.{Seat}
 use Rattle.seats.specs.declared.Seat.the-variants.{Running, Finished, Stopped}
 use Rattle.seats.proofs.SeatLaws.{seat-deep}
-use Rattle.advance.specs.Advances.{Asked, Advances}
+use Rattle.table.specs.Table.{PlacesIn, nodeBy}
+use Rattle.table.proofs.TableLaws.{node-by}
+use Rattle.lookup.specs.Lookup.{Unmet}
+use Rattle.advance.specs.Advances.{ruleOf, ruleAt, Advances}
 use Rattle.advance.specs.Strides.{onward, Kept, InRow, LeadsOn, AmongRows}
 use Rattle.advance.specs.declared.Advanced.{Advanced}
-use Rattle.advance.specs.declared.Advanced.the-variants.{Moved, Asks}
+use Rattle.advance.specs.declared.Advanced.the-variants.{Moved, Asks, Joins}
 use Rattle.advance.specs.declared.strides.Came.{Came}
 use Rattle.advance.specs.declared.strides.Came.the-variants.{Did, Over}
 use Rattle.acts.specs.Acts.{Takes, Lands}
@@ -44,7 +49,7 @@ use Rattle.site.specs.declared.own.Own as OwnOf
 use Rattle.site.specs.declared.own.Own.the-variants.{Acts, Attends}
 use Rattle.invariants.proofs.AttendsLaws.{attends-at}
 use Rattle.meets.specs.Places.{settingOf, Given, Stands}
-use Rattle.sites.specs.Turns.{Turns, TurnsAsked, LandsRow, Fits, TurnsCame}
+use Rattle.sites.specs.Turns.{Turns, TurnsJoined, LandsRow, Fits, TurnsCame}
 use Rattle.area.proofs.RowLaws.{back-same}
 use Rattle.concludes.proofs.RowLaws.{row-own}
 use Rattle.concludes.proofs.StandLaws.{stands-length}
@@ -70,10 +75,29 @@ module _ (bs : List ℕ) (nodes P n room : ℕ) (is : List ℤ) (end at bytes le
             rw q (st, ins, refl);
       }
 
-  module _ (t : Stand) (sits : Running t ≡ seatAt (areaOf P work)) (r : OwnOf.Own) (owns : Owns bs nodes (record { index = P }) t room (getD lengths P 0) r (areaOf P work)) where
+  -- what site P does where it stands at t
+  abbrev Does : Stand → OwnOf.Own → Type 0
+  Does t r = (p : Program) → checked bs ≡ good p → length (p .nodes) ≡ nodes → PlacesIn bs nodes (areaOf P work) → (b : Book) → used b ≡ getD lengths P 0
+      → own (settingOf p room) P (controlOf t (areaOf P work)) b ≡ Owned.ownOf (settingOf p room) P (controlOf t (areaOf P work)) b r
+
+  node-here : (e : ℕ) (p : Program) → checked bs ≡ good p → length (p .nodes) ≡ nodes → PlacesIn bs nodes (areaOf P work) → nodeBy bs nodes (areaOf P work) e ≡ nodeAt p e
+  node-here e p g len places = rw (← len) (node-by bs p (areaOf P work) e g (rw len places))
+
+  does-asked : (t : Stand) (effect : Effect) → effect ≡ ruleAt (View′.Site (record { index = P })) bs nodes t (areaOf P work) → Unmet effect → Does t (Acts effect)
+  does-asked t effect asks none p g len places b q =
+      owned (record { index = P }) t room (getD lengths P 0) (areaOf P work) effect (Acts effect) p b
+      (asks ∙ ap (λ (x : Node). ruleOf (View′.Site (record { index = P })) x t (areaOf P work)) (node-here (t .node) p g len places)) (weighs-acts P effect room (getD lengths P 0) none) q
+
+  module _ (t : Stand) (sits : Running t ≡ seatAt (areaOf P work)) (r : OwnOf.Own) (does : Does t r) where
     stands-at : (G : Given bs nodes room n) (J : Sites) → P < n → Stands G J bytes lengths work → J P ≡ running (controlOf t (areaOf P work)) (bookOf (J P))
     unfolding siteOf
     stands-at G J inside st = st .sits P inside ∙ rw (← sits)
+
+    does-own : (G : Given bs nodes room n) (J : Sites) → P < n → Stands G J bytes lengths work
+        → let S : Setting = settingOf (G .program) room in
+        let c : Control = controlOf t (areaOf P work) in
+        own S P c (bookOf (J P)) ≡ Owned.ownOf S P c (bookOf (J P)) r
+    does-own G J inside st = does (G .program) (G .sound) (G .count) (st .tables P inside) (bookOf (J P)) (stands-length G J J bytes lengths work st P inside)
 
     turns-by : (G : Given bs nodes room n) (J : Sites) → P < n → Stands G J bytes lengths work
         → let S : Setting = settingOf (G .program) room in
@@ -82,34 +106,52 @@ module _ (bs : List ℕ) (nodes P n room : ℕ) (is : List ℤ) (end at bytes le
     unfolding turn turnAt
     turns-by G J inside st =
         ap (λ (s : Site). turnAt (settingOf (G .program) room) P s J) (stands-at G J inside st)
-        ∙ ap (λ (o : Own). turnOwn (settingOf (G .program) room) P (controlOf t (areaOf P work)) o J)
-        (owns .comes (G .program) (G .sound) (G .count) (st .tables P inside) (bookOf (J P)) (stands-length G J J bytes lengths work st P inside))
+        ∙ ap (λ (o : Own). turnOwn (settingOf (G .program) room) P (controlOf t (areaOf P work)) o J) (does-own G J inside st)
 
-    pub turn-meets : (mt : Meeting) (o : Offer) (b : Bool) (bytes′ lengths′ work′ : List ℕ) → r ≡ Attends mt o → Meets bs nodes (t .node) (t .mode) mt n room b bytes lengths work bytes′ lengths′ work′
-        → Turns bs nodes P n room is end b at bytes lengths work at bytes′ lengths′ work′
-    unfolding turnOwn controlOf
-    turn-meets mt o b bytes′ lengths′ work′ q k =
-        record {
-          comes = λ G J inside st ins.
-              let S : Setting = settingOf (G .program) room in
-              let e : turn S P J ≡ meeting S (t .node) (t .mode) mt J = turns-by G J inside st ∙ rw q in
-              let own-is : own S P (controlOf t (areaOf P work)) (bookOf (J P)) ≡ attends mt o
-              = owns .comes (G .program) (G .sound) (G .count) (st .tables P inside) (bookOf (J P)) (stands-length G J J bytes lengths work st P inside) ∙ rw q in
-              let z = k .comes G J (attends-at S P (controlOf t (areaOf P work)) (bookOf (J P)) mt o own-is) st in
-              rw e (z .0, meeting-inputs is end at n J ins S (t .node) (t .mode) mt, z .1);
-        }
-
-    pub turn-acts : (effect : Effect) (at′ bytes′ lengths′ work′ : List ℕ) → r ≡ Acts effect → ActsAlone effect t P room is end at bytes lengths work at′ bytes′ lengths′ work′
+    turn-acts : (effect : Effect) (at′ bytes′ lengths′ work′ : List ℕ) → r ≡ Acts effect → Alone r → ActsAlone effect t P room is end at bytes lengths work at′ bytes′ lengths′ work′
         → Turns bs nodes P n room is end true at bytes lengths work at′ bytes′ lengths′ work′
     unfolding turnOwn
-    turn-acts effect at′ bytes′ lengths′ work′ q k =
+    turn-acts effect at′ bytes′ lengths′ work′ q alone k =
         record {
           comes = λ G J inside st ins.
               let S : Setting = settingOf (G .program) room in
               let c : Control = controlOf t (areaOf P work) in
               let e : turn S P J ≡ counted (put P (acted S P c (bookOf (J P)) effect) J) = turns-by G J inside st ∙ rw q in
-              let z = k .comes bs nodes n G J (bookOf (J P)) inside st ins (subst Alone q (owns .alone)) (stands-at G J inside st) in
+              let z = k .comes bs nodes n G J (bookOf (J P)) inside st ins (subst Alone q alone) (stands-at G J inside st) in
               rw e (z .0, z .1, refl);
+        }
+
+  -- it does what its rule asks for
+  turn-asked : (t : Stand) → Running t ≡ seatAt (areaOf P work) → (effect : Effect) → effect ≡ ruleAt (View′.Site (record { index = P })) bs nodes t (areaOf P work) → Unmet effect
+      → (at′ bytes′ lengths′ work′ : List ℕ) → ActsAlone effect t P room is end at bytes lengths work at′ bytes′ lengths′ work′
+      → Turns bs nodes P n room is end true at bytes lengths work at′ bytes′ lengths′ work′
+  turn-asked t sits effect asks none at′ bytes′ lengths′ work′ = turn-acts t sits (Acts effect) (does-asked t effect asks none) effect at′ bytes′ lengths′ work′ refl none
+
+  -- at a node of a meeting
+  module _ (t : Stand) (node : JointNode) (read : node ≡ jointNode (nodeBy bs nodes (areaOf P work) (t .node))) (r : OwnOf.Own)
+      (owns : Owns node (record { index = P }) t room (getD lengths P 0) r (areaOf P work)) where
+    does-joint : IsJoint node → Does t r
+    does-joint joint p g len places b q = owns .comes p (read ∙ ap jointNode (node-here (t .node) p g len places)) joint b q
+
+    pub joined-acts : (effect : Effect) (at′ bytes′ lengths′ work′ : List ℕ) → r ≡ Acts effect → ActsAlone effect t P room is end at bytes lengths work at′ bytes′ lengths′ work′
+        → TurnsJoined bs nodes t P n room is end true at bytes lengths work at′ bytes′ lengths′ work′
+    joined-acts effect at′ bytes′ lengths′ work′ q k = record { comes = λ sits joint. turn-acts t sits r (does-joint (rw read joint)) effect at′ bytes′ lengths′ work′ q (owns .alone) k }
+
+    pub joined-meets : (mt : Meeting) (o : Offer) (b : Bool) (bytes′ lengths′ work′ : List ℕ) → r ≡ Attends mt o → Meets node (t .node) (t .mode) mt n room b bytes lengths work bytes′ lengths′ work′
+        → TurnsJoined bs nodes t P n room is end b at bytes lengths work at bytes′ lengths′ work′
+    unfolding turnOwn controlOf
+    joined-meets mt o b bytes′ lengths′ work′ q k =
+        record {
+          comes = λ sits joint. record {
+            comes = λ G J inside st ins.
+                let S : Setting = settingOf (G .program) room in
+                let does : Does t r = does-joint (rw read joint) in
+                let e : turn S P J ≡ meeting S (t .node) (t .mode) mt J = turns-by t sits r does G J inside st ∙ rw q in
+                let own-is : own S P (controlOf t (areaOf P work)) (bookOf (J P)) ≡ attends mt o = does-own t sits r does G J inside st ∙ rw q in
+                let here : node ≡ jointNode (nodeAt (G .program) (t .node)) = read ∙ ap jointNode (node-here (t .node) (G .program) (G .sound) (G .count) (st .tables P inside)) in
+                let z = k .comes bs nodes G J here (attends-at S P (controlOf t (areaOf P work)) (bookOf (J P)) mt o own-is) st in
+                rw e (z .0, meeting-inputs is end at n J ins S (t .node) (t .mode) mt, z .1);
+          };
         }
 
 -- a turn by which control just moves
@@ -120,9 +162,7 @@ pub turn-landed : (bs : List ℕ) (nodes P n room : ℕ) (is : List ℤ) (end at
 turn-landed bs nodes P n room is end at bytes lengths work t sits next w1 advances u′ ys ws lands place long area =
     let m = step-lands bs nodes t (record { index = P }) (getD lengths P 0) (row room P bytes) (areaOf P work) w1 next u′ ys ws advances lands in
     let input : Taken = headOf (take (getD end P 0 - getD at P 0) (drop (getD at P 0) is)) in
-    turn-acts bs nodes P n room is end at bytes lengths work t sits (Acts (Goes (m .0)))
-    (owned bs nodes (record { index = P }) t room (getD lengths P 0) (areaOf P work) (Goes (m .0)) (m .1) (Acts (Goes (m .0))) (weighs-acts P (Goes (m .0)) room (getD lengths P 0) (hit (0 ∷ 1 ∷ 2 ∷ 3 ∷ []) 1 tt)))
-    (Goes (m .0)) at (back room P bytes ys) (set lengths P u′) (back rowSize P work ws) refl
+    turn-asked bs nodes P n room is end at bytes lengths work t sits (Goes (m .0)) (m .1) tt at (back room P bytes ys) (set lengths P u′) (back rowSize P work ws)
     (alone-none (Goes (m .0)) t P room is end at bytes lengths work input 0 u′ ys ws place long area refl refl
     (acts-goes input t (record { index = P }) (getD lengths P 0) (row room P bytes) (areaOf P work) u′ ys ws (Goes (m .0)) (m .0) refl (m .2)) refl)
 
@@ -192,16 +232,29 @@ module _ (bs : List ℕ) (nodes P n room : ℕ) (is : List ℤ) (end at bytes le
           }
 
       -- its rule asks for more than a move
-      pub came-asked : (effect : Effect) (b : Bool) (at′ bytes′ lengths′ work′ : List ℕ) → y ≡ Asks effect → TurnsAsked bs nodes effect s P n room is end b at bytes lengths work at′ bytes′ lengths′ work′
-          → TurnsCame bs nodes came P n room is end b at bytes lengths work at′ bytes′ lengths′ work′
-      came-asked effect b at′ bytes′ lengths′ work′ q k =
+      pub came-asked : (effect : Effect) (at′ bytes′ lengths′ work′ : List ℕ) → y ≡ Asks effect → ActsAlone effect s P room is end at bytes lengths work at′ bytes′ lengths′ work′
+          → TurnsCame bs nodes came P n room is end true at bytes lengths work at′ bytes′ lengths′ work′
+      came-asked effect at′ bytes′ lengths′ work′ q k =
           record {
             comes = λ t w long (ys, stops, area, e).
                 let d = stops .did s y did in
                 let a = d .2 .asks effect q in
                 let none : ys ≡ d .1 = subst (λ (z : Advanced). Kept true (onward z) (d .1) ys) q (d .3) in
                 let same : work ≡ w = e ∙ ap (λ (x : List ℕ). back rowSize P w x) (none ∙ a .2) ∙ back-same rowSize P w in
-                let l : TurnsAsked bs nodes effect s P n room is end b at bytes lengths w at′ bytes′ lengths′ work′ = rw same at k in
+                turn-asked bs nodes P n room is end at bytes lengths w s (d .0) effect (a .0) (a .3) at′ bytes′ lengths′ work′ (rw same at k);
+          }
+
+      -- it stands at a node of a meeting
+      pub came-joined : (b : Bool) (at′ bytes′ lengths′ work′ : List ℕ) → y ≡ Joins → TurnsJoined bs nodes s P n room is end b at bytes lengths work at′ bytes′ lengths′ work′
+          → TurnsCame bs nodes came P n room is end b at bytes lengths work at′ bytes′ lengths′ work′
+      came-joined b at′ bytes′ lengths′ work′ q k =
+          record {
+            comes = λ t w long (ys, stops, area, e).
+                let d = stops .did s y did in
+                let a = d .2 .joins q in
+                let none : ys ≡ d .1 = subst (λ (z : Advanced). Kept true (onward z) (d .1) ys) q (d .3) in
+                let same : work ≡ w = e ∙ ap (λ (x : List ℕ). back rowSize P w x) (none ∙ a .1) ∙ back-same rowSize P w in
+                let l : TurnsJoined bs nodes s P n room is end b at bytes lengths w at′ bytes′ lengths′ work′ = rw same at k in
                 l .comes (d .0) (a .0);
           }
 
@@ -211,7 +264,8 @@ came-fits bs nodes P (Did s (Moved next)) t w x (ys, stops, area, e) = subst Dee
 came-fits bs nodes P (Did s (Asks effect)) t w x (ys, stops, area, e) =
     let d = stops .did s (Asks effect) refl in
     (subst DeepSeat (sym (d .0)) (seat-deep (areaOf P w)), d .2 .asks effect refl .1)
+came-fits bs nodes P (Did s Joins) t w x (ys, stops, area, e) = subst DeepSeat (sym (stops .did s Joins refl .0)) (seat-deep (areaOf P w))
 came-fits bs nodes P Over t w x h = tt
 
-pub fits-asked : (came : Came) (s : Stand) (y : Advanced) (effect : Effect) → came ≡ Did s y → y ≡ Asks effect → Fits came → (s .depth .frames ≤ maxFrames) × Asked effect
-fits-asked came s y effect did q h = subst Fits (did ∙ ap (λ (x : Advanced). Did s x) q) h
+pub fits-did : (came : Came) (s : Stand) (y z : Advanced) → came ≡ Did s y → y ≡ z → Fits came → Fits (Did s z)
+fits-did came s y z did q h = subst Fits (did ∙ ap (λ (x : Advanced). Did s x) q) h

@@ -6,17 +6,17 @@ use mathlib.Core.List.{List}
 use lib.IntN.{ℤ}
 use lib.ListN.{length, getD, set}
 use Rattle.limits.specs.Limits.{maxFrames}
+use Rattle.nodes.specs.Nodes.{jointNode, IsJoint}
 use Rattle.rules.specs.Joint.{Sites, turn}
-use Rattle.rules.specs.declared.effects.Effect.{Effect}
-use Rattle.rules.specs.declared.effects.View.the-variants.{Site}
 use Rattle.area.specs.Rows.{rowSize, row, areaOf, back}
 use Rattle.area.specs.declared.stand.Stand.{Stand}
 use Rattle.area.specs.declared.stand.Next.{Next}
 use Rattle.seats.specs.Seats.{seatAt}
 use Rattle.seats.specs.declared.Seat.the-variants.{Running}
-use Rattle.advance.specs.Advances.{ruleAt, Asked}
+use Rattle.table.specs.Table.{nodeBy}
+use Rattle.advance.specs.Advances.{Asked}
 use Rattle.advance.specs.Strides.{InRow, AmongRows}
-use Rattle.advance.specs.declared.Advanced.the-variants.{Moved, Asks}
+use Rattle.advance.specs.declared.Advanced.the-variants.{Moved, Asks, Joins}
 use Rattle.advance.specs.declared.strides.Came.{Came}
 use Rattle.advance.specs.declared.strides.Came.the-variants.{Did, Over}
 use Rattle.acts.specs.Acts.{Lands}
@@ -29,9 +29,9 @@ pub record Turns (bs : List ℕ) (nodes P n room : ℕ) (is : List ℤ) (end : L
       → let J′ : Sites = turn (settingOf (G .program) room) P J .sites in
       Stands G J′ bytes′ lengths′ work′ × InputsStand is end n at′ J′ × (once r ≡ turn (settingOf (G .program) room) P J .count)
 
--- a turn of site P, which stands at t, where its rule asks for more than a move
-pub record TurnsAsked (bs : List ℕ) (nodes : ℕ) (effect : Effect) (t : Stand) (P n room : ℕ) (is : List ℤ) (end : List ℕ) (r : Bool) (at bytes lengths work at′ bytes′ lengths′ work′ : List ℕ) : Type 0 where
-  pub comes : Running t ≡ seatAt (areaOf P work) → effect ≡ ruleAt (Site (record { index = P })) bs nodes t (areaOf P work)
+-- a turn of site P, which stands at t, at a node of a meeting
+pub record TurnsJoined (bs : List ℕ) (nodes : ℕ) (t : Stand) (P n room : ℕ) (is : List ℤ) (end : List ℕ) (r : Bool) (at bytes lengths work at′ bytes′ lengths′ work′ : List ℕ) : Type 0 where
+  pub comes : Running t ≡ seatAt (areaOf P work) → IsJoint (jointNode (nodeBy bs nodes (areaOf P work) (t .node)))
       → Turns bs nodes P n room is end r at bytes lengths work at′ bytes′ lengths′ work′
 
 -- where a move has led site P, which stood at the node e: of all rows only its own change
@@ -49,6 +49,7 @@ pub record LandsRow (next : Next) (e P room : ℕ) (bytes lengths work bytes′ 
 abbrev pub Fits : Came → Type 0
 Fits (Did t (Moved next)) = t .depth .frames ≤ maxFrames
 Fits (Did t (Asks effect)) = (t .depth .frames ≤ maxFrames) × Asked effect
+Fits (Did t Joins) = t .depth .frames ≤ maxFrames
 Fits Over = Unit {0}
 
 -- what is left to do of a turn of site P, which in the rows work₀ came to this

@@ -3,22 +3,19 @@ ghost use Prim.Native.Nat.{_+_, _*_, _≤_, _<_};
 ghost use lib.ListN.{length};
 ghost use Rattle.limits.specs.Limits.{maxParties, maxFrames};
 ghost use Rattle.area.specs.Rows.{rowSize};
-ghost use Rattle.advance.specs.Advances.{Asked};
-ghost use Rattle.sites.specs.Turns.{LandsRow, TurnsAsked, Fits, TurnsCame};
+ghost use Rattle.sites.specs.Turns.{LandsRow, TurnsJoined, Fits, TurnsCame};
 use advance::Advanced;
 use advance::strides::Came;
 use area::stand::Next;
 use area::stand::ROW;
 use area::stand::Stand;
 use limits::Party;
-use rules::effects::Effect;
 use site::own::Own;
 
-// Site p, which stands at t, meets others, or does by itself what its rule asks for besides a move: whether the turn counts.
-fn asked(
+// Site p, which stands at t at a node of a meeting, meets the others if they are there, or stops by its own checks: whether the turn counts.
+fn joined(
     program: &[u8],
     nodes: usize,
-    effect: Effect,
     t: Stand,
     p: u8,
     n: u8,
@@ -30,25 +27,18 @@ fn asked(
     lengths: &mut [usize],
     work: &mut [u8],
 ) -> bool
-    requires { ⌜ (p < n) × (n ≤ maxParties) × (n * room ≤ length (now bytes)) × (n ≤ length (now lengths)) × (n * rowSize ≤ length (now work)) × (maxParties ≤ length (now at)) × (maxParties ≤ length (now end)) × (t .depth .frames ≤ maxFrames) × Asked effect ⌝ }
-    ensures { λ r. ⌜ TurnsAsked (now (program .entry)) nodes effect t p n room (now (inputs .entry)) (now (end .entry)) r (now (at .entry)) (now (bytes .entry)) (now (lengths .entry)) (now (work .entry)) (now (at .exit)) (now (bytes .exit)) (now (lengths .exit)) (now (work .exit)) ⌝ }
+    requires { ⌜ (p < n) × (n ≤ maxParties) × (n * room ≤ length (now bytes)) × (n ≤ length (now lengths)) × (n * rowSize ≤ length (now work)) × (maxParties ≤ length (now at)) × (maxParties ≤ length (now end)) × (t .depth .frames ≤ maxFrames) ⌝ }
+    ensures { λ r. ⌜ TurnsJoined (now (program .entry)) nodes t p n room (now (inputs .entry)) (now (end .entry)) r (now (at .entry)) (now (bytes .entry)) (now (lengths .entry)) (now (work .entry)) (now (at .exit)) (now (bytes .exit)) (now (lengths .exit)) (now (work .exit)) ⌝ }
 {
     let e = t.node;
     let m = t.mode;
+    let from = p as usize * ROW;
+    let to = from + ROW;
     let used = lengths[p as usize];
-    match site::own::weighed(effect, Party { index: p }, room, used) {
-        Own::Attends(mt, _) => turn_steps::meet(
-            program,
-            nodes,
-            e,
-            m,
-            mt,
-            n,
-            room,
-            bytes,
-            lengths,
-            work,
-        ),
+    let node = table::joint_node(program, nodes, &work[from..to], e);
+    let party = Party { index: p };
+    match site::own::own_at(node, party, t, room, used, &work[from..to]) {
+        Own::Attends(mt, _) => turn_steps::meet(node, e, m, mt, n, room, bytes, lengths, work),
         Own::Acts(own) => {
             turn_steps::act_alone(own, t, p, room, inputs, at, end, bytes, lengths, work);
             true
@@ -110,10 +100,13 @@ pub fn turn(
             landed(next, t.node, p, room, bytes, lengths, work);
             true
         }
-        Advanced::Asks(effect) => asked(
+        Advanced::Asks(effect) => {
+            turn_steps::act_alone(effect, t, p, room, inputs, at, end, bytes, lengths, work);
+            true
+        }
+        Advanced::Joins => joined(
             program,
             nodes,
-            effect,
             t,
             p,
             n,

@@ -8,6 +8,8 @@ use native.Mathlib.Omega.{arith}
 use lib.IntN.{ℤ}
 use Rattle.parties.specs.Sets.{member}
 use Rattle.parties.specs.declared.sets.PartySet.{PartySet}
+use Rattle.nodes.specs.Nodes.{jointNode}
+use Rattle.nodes.specs.declared.JointNode.{JointNode}
 use Rattle.program.specs.Check.{nodeAt}
 use Rattle.rules.specs.Rules.{jointMeeting}
 use Rattle.rules.specs.Single.{Setting, allOf}
@@ -66,13 +68,13 @@ module _ (S : Setting) (e : ℕ) (m : PartySet) (mt : Meeting) (i : ℤ) (asks :
       go true h = joins-concludes (J P) (h refl)
       go false h = refl
 
-module _ (bs : List ℕ) (nodes e : ℕ) (m : PartySet) (mt : Meeting) (n room : ℕ) (bytes lengths work : List ℕ) (r : Gathered) (gathers : Gathers bs nodes e m n room r lengths work) where
-  module _ (G : Given bs nodes room n) (J : Sites) (st : Stands G J bytes lengths work) where
+module _ (node : JointNode) (e : ℕ) (m : PartySet) (mt : Meeting) (n room : ℕ) (bytes lengths work : List ℕ) (r : Gathered) (gathers : Gathers node e m n room r lengths work) where
+  module _ {bs : List ℕ} {nodes : ℕ} (G : Given bs nodes room n) (J : Sites) (read : node ≡ jointNode (nodeAt (G .program) e)) (st : Stands G J bytes lengths work) where
     abbrev at : ℕ → Attendance
     at P = attendance (settingOf (G .program) room) e m P (J P)
 
-    abbrev sitting : Sitting bs nodes n lengths work
-    sitting = record { program = G .program; sound = G .sound; count = G .count; sites = J; sits = λ P h. stands-sits G J J bytes lengths work st P h }
+    abbrev sitting : Sitting node e n lengths work
+    sitting = record { program = G .program; read = read; sites = J; sits = λ P h. stands-sits G J J bytes lengths work st P h }
 
     there-not : r ≡ Missing → meeting (settingOf (G .program) room) e m mt J ≡ idle J
     unfolding gathered
@@ -90,34 +92,31 @@ module _ (bs : List ℕ) (nodes e : ℕ) (m : PartySet) (mt : Meeting) (n room :
         meeting-by (settingOf (G .program) room) e m mt J n (G .parties) ∙ rw (t .0, t .1)
 
   -- nothing changes
-  module _ (same : (G : Given bs nodes room n) (J : Sites) → Stands G J bytes lengths work → meeting (settingOf (G .program) room) e m mt J ≡ idle J) where
-    stays : Meets bs nodes e m mt n room false bytes lengths work bytes lengths work
-    stays = record { comes = λ G J asks st. rw (same G J st) (st, refl) }
+  pub meets-missing : r ≡ Missing → Meets node e m mt n room false bytes lengths work bytes lengths work
+  meets-missing q = record { comes = λ bs nodes G J read asks st. rw (there-not G J read st q) (st, refl) }
 
-  pub meets-missing : r ≡ Missing → Meets bs nodes e m mt n room false bytes lengths work bytes lengths work
-  meets-missing q = stays (λ G J st. there-not G J st q)
-
-  pub meets-empty : (o : Offer) → r ≡ All o → o ≡ Empty → Meets bs nodes e m mt n room false bytes lengths work bytes lengths work
+  pub meets-empty : (o : Offer) → r ≡ All o → o ≡ Empty → Meets node e m mt n room false bytes lengths work bytes lengths work
   unfolding concluded
-  meets-empty o q z = stays (λ G J st. there-all G J st o q ∙ rw z)
+  meets-empty o q z = record { comes = λ bs nodes G J read asks st. rw (there-all G J read st o q, z) (st, refl) }
 
-  module _ (o : Offer) (i : ℤ) (h : PartySet) (all : r ≡ All o) (brings : o ≡ Secret i h) (b : Bool) (agrees : Agreed bs nodes e m mt n room i h b lengths work) (bytes′ lengths′ work′ : List ℕ) where
-    agreed-is : (G : Given bs nodes room n) (J : Sites) → Stands G J bytes lengths work
-        → meeting (settingOf (G .program) room) e m mt J ≡ counted (cond b (putAll m (joins (settingOf (G .program) room) i) J) (putAll m parts J))
-    agreed-is G J st =
-        there-all G J st o all
-        ∙ ap (λ (x : Offer). concluded (settingOf (G .program) room) m mt x (at G J st) J) brings
-        ∙ concluded-by (settingOf (G .program) room) m mt i h (at G J st) J n b (G .parties) (agrees .comes (sitting G J st))
+  module _ (o : Offer) (i : ℤ) (h : PartySet) (all : r ≡ All o) (brings : o ≡ Secret i h) (b : Bool) (agrees : Agreed node e m mt n room i h b lengths work) (bytes′ lengths′ work′ : List ℕ) where
+    module _ {bs : List ℕ} {nodes : ℕ} (G : Given bs nodes room n) (J : Sites) (read : node ≡ jointNode (nodeAt (G .program) e)) (st : Stands G J bytes lengths work) where
+      agreed-is : meeting (settingOf (G .program) room) e m mt J ≡ counted (cond b (putAll m (joins (settingOf (G .program) room) i) J) (putAll m parts J))
+      agreed-is =
+          there-all G J read st o all
+          ∙ ap (λ (x : Offer). concluded (settingOf (G .program) room) m mt x (at G J read st) J) brings
+          ∙ concluded-by (settingOf (G .program) room) m mt i h (at G J read st) J n b (G .parties) (agrees .comes (sitting G J read st))
+
+      come-to : (outcome : Outcome) → ConcludesAll outcome m n room bytes lengths work bytes′ lengths′ work′ → jointMeeting (nodeAt (G .program) e) ≡ some mt
+          → (x : Bool) → outcome ≡ cond x (Joins mt i) Parts
+          → Stands G (cond x (putAll m (joins (settingOf (G .program) room) i) J) (putAll m parts J)) bytes′ lengths′ work′
+      come-to outcome k asks true d =
+          let S : Setting = settingOf (G .program) room in
+          let there : allOf n m (λ P. isThere (at G J read st P)) ≡ true = gathered-all G J read st o all .0 in
+          stands-same G (putAll m (concluding (Joins mt i) S) J) (putAll m (joins S i) J) bytes′ lengths′ work′ ((rw d at k) .comes bs nodes G J st)
+          (λ Q h. joined S e m mt i asks Q J (λ inside. all-member m (λ P. isThere (at G J read st P)) n there Q h inside))
+      come-to outcome k asks false d = (rw d at k) .comes bs nodes G J st
 
     pub meets-done : (outcome : Outcome) → outcome ≡ cond b (Joins mt i) Parts → ConcludesAll outcome m n room bytes lengths work bytes′ lengths′ work′
-        → Meets bs nodes e m mt n room true bytes lengths work bytes′ lengths′ work′
-    meets-done outcome q k = record { comes = λ G J asks st. rw (agreed-is G J st) (go b q G J asks st, refl) }
-      where
-        go : (x : Bool) → outcome ≡ cond x (Joins mt i) Parts → (G : Given bs nodes room n) (J : Sites) → jointMeeting (nodeAt (G .program) e) ≡ some mt → Stands G J bytes lengths work
-            → Stands G (cond x (putAll m (joins (settingOf (G .program) room) i) J) (putAll m parts J)) bytes′ lengths′ work′
-        go true d G J asks st =
-            let S : Setting = settingOf (G .program) room in
-            let there : allOf n m (λ P. isThere (at G J st P)) ≡ true = gathered-all G J st o all .0 in
-            stands-same G (putAll m (concluding (Joins mt i) S) J) (putAll m (joins S i) J) bytes′ lengths′ work′ ((rw d at k) .comes bs nodes G J st)
-            (λ Q h. joined S e m mt i asks Q J (λ inside. all-member m (λ P. isThere (at G J st P)) n there Q h inside))
-        go false d G J asks st = (rw d at k) .comes bs nodes G J st
+        → Meets node e m mt n room true bytes lengths work bytes′ lengths′ work′
+    meets-done outcome q k = record { comes = λ bs nodes G J read asks st. rw (agreed-is G J read st) (come-to G J read st outcome k asks b q, refl) }

@@ -6,6 +6,8 @@ use mathlib.Core.List.{List}
 use mathlib.Core.Option.{some}
 use lib.IntN.{ℤ}
 use Rattle.parties.specs.declared.sets.PartySet.{PartySet}
+use Rattle.nodes.specs.Nodes.{jointNode}
+use Rattle.nodes.specs.declared.JointNode.{JointNode}
 use Rattle.program.specs.Check.{nodeAt}
 use Rattle.rules.specs.Rules.{jointMeeting}
 use Rattle.rules.specs.Books.{Book}
@@ -28,8 +30,8 @@ abbrev pub once : Bool → ℕ
 once counted = cond counted 1 0
 
 -- all of the mode m meet at the node e, which asks for the meeting mt, or nothing changes
-pub record Meets (bs : List ℕ) (nodes e : ℕ) (m : PartySet) (mt : Meeting) (n room : ℕ) (r : Bool) (bytes lengths work bytes′ lengths′ work′ : List ℕ) : Type 0 where
-  pub comes : (G : Given bs nodes room n) (J : Sites) → jointMeeting (nodeAt (G .program) e) ≡ some mt → Stands G J bytes lengths work
+pub record Meets (node : JointNode) (e : ℕ) (m : PartySet) (mt : Meeting) (n room : ℕ) (r : Bool) (bytes lengths work bytes′ lengths′ work′ : List ℕ) : Type 0 where
+  pub comes : (bs : List ℕ) (nodes : ℕ) (G : Given bs nodes room n) (J : Sites) → node ≡ jointNode (nodeAt (G .program) e) → jointMeeting (nodeAt (G .program) e) ≡ some mt → Stands G J bytes lengths work
       → Stands G (meeting (settingOf (G .program) room) e m mt J .sites) bytes′ lengths′ work′ × (once r ≡ meeting (settingOf (G .program) room) e m mt J .count)
 
 -- how many inputs a site takes by what it does

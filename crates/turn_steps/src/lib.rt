@@ -13,6 +13,7 @@ use concludes::Outcome;
 use inputs::Taken;
 use limits::Party;
 use meets::present::Gathered;
+use nodes::JointNode;
 use parties::sets::PartySet;
 use rules::effects::Effect;
 use rules::effects::Meeting;
@@ -31,8 +32,7 @@ fn outcome_of(agreed: bool, mt: Meeting, number: i32) -> Outcome
 
 // All of the mode m meet at the node e, if they can: whether anything was done.
 pub fn meet(
-    program: &[u8],
-    nodes: usize,
+    node: JointNode,
     e: u16,
     m: PartySet,
     mt: Meeting,
@@ -43,28 +43,15 @@ pub fn meet(
     work: &mut [u8],
 ) -> bool
     requires { ⌜ (n ≤ maxParties) × (n * room ≤ length (now bytes)) × (n ≤ length (now lengths)) × (n * rowSize ≤ length (now work)) ⌝ }
-    ensures { λ r. ⌜ Meets (now (program .entry)) nodes e m mt n room r (now (bytes .entry)) (now (lengths .entry)) (now (work .entry)) (now (bytes .exit)) (now (lengths .exit)) (now (work .exit)) ⌝ }
+    ensures { λ r. ⌜ Meets node e m mt n room r (now (bytes .entry)) (now (lengths .entry)) (now (work .entry)) (now (bytes .exit)) (now (lengths .exit)) (now (work .exit)) ⌝ }
 {
-    let Gathered::All(offer) = meets::present::gather(program, nodes, e, m, n, room, lengths, work)
-    else {
+    let Gathered::All(offer) = meets::present::gather(node, e, m, n, room, lengths, work) else {
         return false;
     };
     let Offer::Secret(number, holders) = offer else {
         return false;
     };
-    let agreed = meets::present::agreed(
-        program,
-        nodes,
-        e,
-        m,
-        mt,
-        n,
-        room,
-        number,
-        holders,
-        lengths,
-        work,
-    );
+    let agreed = meets::present::agreed(node, e, m, mt, n, room, number, holders, lengths, work);
     let outcome = outcome_of(agreed, mt, number);
     concludes::conclude(outcome, m, n, room, bytes, lengths, work);
     true

@@ -1,2 +1,3 @@
+pub mod SpellLaws
 pub mod TwosComplement
 pub mod WordLaws

@@ -1,10 +1,10 @@
-// Two's complement, and numbers of two and four bytes, low byte first, at a place of lent bytes.
+// Two's complement, and numbers of two, four and eight bytes, low byte first, at a place of lent bytes.
 ghost use mathlib.Core.Path.{_≡_};
 ghost use Prim.Native.Nat.{_+_, _≤_, _<_};
 ghost use lib.ListN.{length};
 ghost use lib.Seq.{sets};
 ghost use Rattle.numbers.specs.Integers.{residue, signed};
-ghost use Rattle.words.specs.Words.{lowFirst, numberAt, integerBytes, integerAt};
+ghost use Rattle.words.specs.Words.{lowFirst, numberAt, Spells, integerBytes, integerAt};
 
 // The 32 bits of i in two's complement, as a number.
 pub fn bits(i: i32) -> u32
@@ -45,6 +45,13 @@ pub fn load4(s: &[u8], at: usize) -> u32
     ensures { λ r. ⌜ r ≡ numberAt 4 (now (s .entry)) at ⌝ }
 {
     wide(s[at]) + 256 * (wide(s[at + 1]) + 256 * (wide(s[at + 2]) + 256 * wide(s[at + 3])))
+}
+
+pub fn load8(s: &[u8], at: usize) -> u64
+    requires { ⌜ at + 8 ≤ length (now s) ⌝ }
+    ensures { λ r. ⌜ Spells 8 (now (s .entry)) at r ⌝ }
+{
+    load4(s, at) as u64 + 4294967296 * (load4(s, at + 4) as u64)
 }
 
 pub fn store2(s: &mut [u8], at: usize, half: u16)

@@ -18,7 +18,7 @@ same-length c = search needs
 
 returns : tie.Need-returns
 returns c = let a = c .before .before .before .before .args in
-    answers-asks _ (a .t) (a .w .now) _ (c .before .effect .ensures) (asked-left (c .before .effect .result) (c .match .keys2))
+    answers-asks (a .view) (a .node) (a .t) (a .w .now) _ (c .before .effect .ensures) (asked-left (c .before .effect .result) (c .match .keys2)) (c .before .before .before .before .pre .2)
 
 go-requires : tie.Need-go-requires
 go-requires c κs = search needs
@@ -28,7 +28,7 @@ same-length-2 c = search needs
 
 returns-2 : tie.Need-returns-2
 returns-2 c = let a = c .before .before .before .before .before .before .before .before .before .before .args in
-    answers-moves _ (a .t) (a .w .now) _ _ _ (sym (c .before .before .before .before .before .effect2 .given .1) ∙ c .before .before .before .before .before .before .before .effect .ensures) (c .before .before .go .ensures)
+    answers-moves (a .view) (a .node) (a .t) (a .w .now) _ _ _ (sym (c .before .before .before .before .before .effect2 .given .1) ∙ c .before .before .before .before .before .before .before .effect .ensures) (c .before .before .go .ensures)
 
 pub by-rule-spec : {M : Type 1} → statement M
 by-rule-spec =

@@ -1,10 +1,12 @@
--- `advance::call` meets its contract. Assumes nothing.
-use mathlib.Core.Path.{sym, _∙_}
+use mathlib.Core.Path.{refl, sym, _∙_}
+use Rattle.nodes.specs.Nodes.{jointNode}
 use Rattle.area.specs.Levels.{namesAt}
-use Rattle.advance.proofs.AdvanceLaws.{answers-asks, answers-moves, rule-call, rule-call-unbound}
+use Rattle.advance.proofs.AdvanceLaws.{answers-moves, rule-call}
 use borrow.Author.Needs.{needs}
 use Rattle.advance.proofs.call.Statement.{statement}
 use Rattle.advance.proofs.call.Tie as tie
+use Rattle.advance.proofs.call.Reads as reads
+use Rattle.advance.proofs.call.Lts as lts
 use Rattle.area.proofs.levels.call.Reads as call-reads
 use Rattle.lookup.proofs.seek.Reads as seek-reads
 
@@ -21,8 +23,8 @@ same-length : tie.Need-same-length
 same-length c = search needs
 
 returns : tie.Need-returns
-returns c = let a = c .before .before .before .before .before .before .before .args in
-    λ view. answers-asks _ (a .t) (a .w .now) _ (rule-call-unbound view (a .t .mode) (namesAt (a .w .now) (a .t .depth .frames)) (a .f) (a .x) _ (sym (c .enum-told .given .1) ∙ c .before .before .seek .ensures)) tt
+unfolding jointNode
+returns c = (refl, refl)
 
 call-requires : tie.Need-call-requires
 call-requires c κs = search needs
@@ -32,7 +34,7 @@ same-length-2 c = search needs
 
 returns-2 : tie.Need-returns-2
 returns-2 c = let a = c .before .before .before .before .before .before .before .before .before .before .before .before .args in
-    λ view. answers-moves _ (a .t) (a .w .now) _ _ _ (rule-call view (a .t .mode) (namesAt (a .w .now) (a .t .depth .frames)) (a .f) (a .x) _ (sym (c .before .before .before .before .before .b .given .1) ∙ c .before .before .before .before .before .before .before .seek .ensures)) (c .before .before .call .ensures)
+    λ view. answers-moves view _ (a .t) (a .w .now) _ _ _ (rule-call view (a .t .mode) (namesAt (a .w .now) (a .t .depth .frames)) (a .f) (a .x) _ (sym (c .before .before .before .before .before .b .given .1) ∙ c .before .before .before .before .before .before .before .seek .ensures)) (c .before .before .call .ensures)
 
 pub call-spec : {M : Type 1} → statement M
 call-spec =

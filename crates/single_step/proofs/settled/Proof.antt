@@ -15,7 +15,7 @@ room-for-all-requires : tie.Need-room-for-all-requires
 room-for-all-requires c κs = search needs
 
 note-all-requires : tie.Need-note-all-requires
-note-all-requires c κs = search needs
+note-all-requires c κs = (search needs, search needs, search needs, sym (c .before .before .before .room-for-all .ensures) ∙ c .before .before .if1 .taken)
 
 hand-back-requires : tie.Need-hand-back-requires
 hand-back-requires c κs = search needs

@@ -22,8 +22,8 @@ same-length-2 : tie.Need-same-length-2
 same-length-2 c = search needs
 
 returns : tie.Need-returns
-returns c = let a = c .before .before .before .before .before .before .before .before .before .args in
-    meets-missing (a .program .now) (a .nodes) (a .e) (a .m) (a .mt) (a .n) (a .room) (a .bytes .now) (a .lengths .now) (a .work .now) (c .before .before .gather .result) (c .before .before .gather .ensures) (c .enum-told .given .1)
+returns c = let a = c .before .before .before .before .before .before .before .before .args in
+    meets-missing (a .node) (a .e) (a .m) (a .mt) (a .n) (a .room) (a .bytes .now) (a .lengths .now) (a .work .now) (c .before .before .gather .result) (c .before .before .gather .ensures) (c .enum-told .given .1)
 
 enum-known-offer-2 : tie.Need-enum-known-offer-2
 enum-known-offer-2 c = search needs
@@ -38,8 +38,8 @@ same-length-4 : tie.Need-same-length-4
 same-length-4 c = search needs
 
 returns-2 : tie.Need-returns-2
-returns-2 c = let a = c .before .before .before .before .before .before .before .before .before .before .before .before .args in
-    meets-empty (a .program .now) (a .nodes) (a .e) (a .m) (a .mt) (a .n) (a .room) (a .bytes .now) (a .lengths .now) (a .work .now) (c .before .before .before .before .before .gather .result) (c .before .before .before .before .before .gather .ensures) _ (c .before .before .before .offer .given .1) (c .enum-told2 .given .1)
+returns-2 c = let a = c .before .before .before .before .before .before .before .before .before .before .before .args in
+    meets-empty (a .node) (a .e) (a .m) (a .mt) (a .n) (a .room) (a .bytes .now) (a .lengths .now) (a .work .now) (c .before .before .before .before .before .gather .result) (c .before .before .before .before .before .gather .ensures) _ (c .before .before .before .offer .given .1) (c .enum-told2 .given .1)
 
 agreed-requires : tie.Need-agreed-requires
 agreed-requires c κs = search needs
@@ -60,9 +60,9 @@ same-length-7 : tie.Need-same-length-7
 same-length-7 c = c .before .work .given
 
 returns-3 : tie.Need-returns-3
-returns-3 c = let a = c .before .before .before .before .before .before .before .before .before .before .before .before .before .before .before .before .before .before .before .before .before .before .before .before .before .before .before .args in
+returns-3 c = let a = c .before .before .before .before .before .before .before .before .before .before .before .before .before .before .before .before .before .before .before .before .before .before .before .before .before .before .args in
     let same = read32 (c .before .before .before .before .before .before .before .before .before .before .before .before .before .before .before .offer2 .given .0 .0) (record { sfits = omega arith }) in
-    meets-done (a .program .now) (a .nodes) (a .e) (a .m) (a .mt) (a .n) (a .room) (a .bytes .now) (a .lengths .now) (a .work .now) (c .before .before .before .before .before .before .before .before .before .before .before .before .before .before .before .before .before .before .before .before .gather .result) (c .before .before .before .before .before .before .before .before .before .before .before .before .before .before .before .before .before .before .before .before .gather .ensures)
+    meets-done (a .node) (a .e) (a .m) (a .mt) (a .n) (a .room) (a .bytes .now) (a .lengths .now) (a .work .now) (c .before .before .before .before .before .before .before .before .before .before .before .before .before .before .before .before .before .before .before .before .gather .result) (c .before .before .before .before .before .before .before .before .before .before .before .before .before .before .before .before .before .before .before .before .gather .ensures)
     _ (c .before .before .before .before .before .before .before .before .before .before .before .before .before .before .before .offer2 .given .0 .0) _ (c .before .before .before .before .before .before .before .before .before .before .before .before .before .before .before .before .before .before .offer .given .1) (c .before .before .before .before .before .before .before .before .before .before .before .before .before .before .before .offer2 .given .1) (c .before .before .before .before .before .before .before .before .before .before .before .agreed .result) (rw same at (c .before .before .before .before .before .before .before .before .before .before .before .agreed .ensures)) _ _ _
     (c .before .before .before .before .before .before .before .before .before .before .outcome-of .result) (rw same at (c .before .before .before .before .before .before .before .before .before .before .outcome-of .ensures)) (c .before .before .before .before .before .before .conclude .ensures)
 

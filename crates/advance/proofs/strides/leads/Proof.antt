@@ -1,8 +1,9 @@
--- `advance::strides::leads` meets its contract. Assumes nothing.
-use Rattle.advance.proofs.StrideLaws.{leads-not}
+use Rattle.advance.proofs.StrideLaws.{leads-none, leads-not}
 use borrow.Author.Needs.{needs}
 use Rattle.advance.proofs.strides.leads.Statement.{statement}
 use Rattle.advance.proofs.strides.leads.Tie as tie
+use Rattle.advance.proofs.strides.leads.Reads as reads
+use Rattle.advance.proofs.strides.leads.Lts as lts
 
 enum-known-came : tie.Need-enum-known-came
 enum-known-came c = search needs
@@ -16,11 +17,8 @@ returns c = search needs
 enum-known-y : tie.Need-enum-known-y
 enum-known-y c = search needs
 
-enum-told-2 : tie.Need-enum-told-2
-enum-told-2 c = search needs
-
 returns-2 : tie.Need-returns-2
-returns-2 c = search needs
+returns-2 c = rw (c .before .before .came .given .1) (leads-none (c .before .before .came .given .0 .0) (c .before .before .came .given .0 .1 .0) (c .match2 .keys2))
 
 enum-known-next : tie.Need-enum-known-next
 enum-known-next c = search needs
@@ -39,7 +37,6 @@ leads-spec =
     enum-told
     returns
     enum-known-y
-    enum-told-2
     returns-2
     enum-known-next
     returns-3

@@ -1,18 +1,15 @@
 -- `ledger::entries::event_for` meets its contract. Assumes nothing.
 use borrow.Author.Needs.{needs}
-use mathlib.Core.Path.{_≡_, refl, sym, _∙_}
+use mathlib.Core.Path.{_≡_, sym, _∙_}
 use mathlib.Core.Bool.{Bool, true, false, cond}
-use mathlib.Core.List.{[], _∷_}
 use Prim.Native.Nat.{ℕ}
-use denote.Enum.{Declared.tagOf}
-use types.Run.{OneOf, miss}
 use lib.IntN.{ℤ}
 use Rattle.parties.specs.Sets.{member}
 use Rattle.parties.specs.declared.sets.PartySet.{PartySet}
-use Rattle.records.proofs.events.Event.{the-type}
 use Rattle.records.specs.declared.events.Event.{Event}
-use Rattle.records.specs.declared.events.Event.the-variants.{Read, Wrote, Shared, Opened, Passed, Finished, Stopped}
+use Rattle.records.specs.declared.events.Event.the-variants.{Opened, Passed}
 use Rattle.rules.specs.Books.{eventFor}
+use Rattle.ledger.proofs.RevealLaws.{other-is, for-party}
 use Rattle.ledger.proofs.entries.event_for.Statement.{statement}
 use Rattle.ledger.proofs.entries.event_for.Tie as tie
 
@@ -20,17 +17,6 @@ use Rattle.ledger.proofs.entries.event_for.Tie as tie
 reveals : (P : ℕ) (e : Event) (q : PartySet) (i : ℤ) (t : Bool) → e ≡ Opened q i → t ≡ member P q → cond t (Opened q i) (Passed q) ≡ eventFor P e
 unfolding eventFor
 reveals P e q i t o h = rw (o, h)
-
--- an event of another kind is the same for every party
-other : (P : ℕ) (e : Event) → OneOf (0 ∷ 1 ∷ 2 ∷ 4 ∷ 5 ∷ 6 ∷ []) (tagOf the-type e) → e ≡ eventFor P e
-unfolding eventFor
-other P (Read i) h = refl
-other P (Wrote i) h = refl
-other P (Shared a q) h = refl
-other P (Opened q i) h = absurd (miss (0 ∷ 1 ∷ 2 ∷ 4 ∷ 5 ∷ 6 ∷ []) 3 tt h)
-other P (Passed q) h = refl
-other P (Finished tag i l h₁) h = refl
-other P (Stopped refusal node) h = refl
 
 enum-known-e : tie.Need-enum-known-e
 enum-known-e c = search needs
@@ -45,7 +31,7 @@ returns-2 : tie.Need-returns-2
 returns-2 c = reveals _ _ _ _ false (c .before .before .before .e .given .1) (sym (c .if1 .left) ∙ c .before .has .ensures)
 
 returns-3 : tie.Need-returns-3
-returns-3 c = other _ _ (c .match .keys2)
+returns-3 c = other-is _ _ _ (c .match .keys2) ∙ for-party _ _
 
 pub event-for-spec : {M : Type 1} → statement M
 event-for-spec = tie.close (tie.spec enum-known-e has-requires returns returns-2 returns-3)

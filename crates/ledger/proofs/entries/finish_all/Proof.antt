@@ -29,7 +29,7 @@ loop-less c = search needs
 loop-again : tie.Need-loop-again Inv-loop μ-loop
 loop-again c =
     let l = c .before .before .before .before .before .before .before .before .loop in
-    go-more (l .inv) (c .before .before .before .before .before .before .before .loop-test .taken) (finishing-bounded _ _) (c .before .before .before .before .finish-one .ensures)
+    go-more (l .inv) (c .before .before .before .before .before .before .before .loop-test .taken) (finishing-bounded _ _ _ _) (c .before .before .before .before .finish-one .ensures)
 
 same-length : tie.Need-same-length Inv-loop μ-loop
 same-length c = c .before .loop .inv .long

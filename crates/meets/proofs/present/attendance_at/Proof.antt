@@ -29,8 +29,8 @@ attendance-of-requires : tie.Need-attendance-of-requires
 attendance-of-requires c κs = search needs
 
 returns : tie.Need-returns
-returns c = let a = c .before .before .before .before .before .before .args in
-    attends-told (a .program .now) (a .nodes) (a .e) (a .m) (a .p) (a .room) (a .lengths .now) (a .work .now) (c .attendance-of .result) (c .attendance-of .ensures)
+returns c = let a = c .before .before .before .before .before .args in
+    attends-told (a .node) (a .e) (a .m) (a .p) (a .room) (a .lengths .now) (a .work .now) (c .attendance-of .result) (c .attendance-of .ensures)
 
 pub attendance-at-spec : {M : Type 1} → statement M
 attendance-at-spec =

@@ -16,8 +16,8 @@ enum-told : tie.Need-enum-told
 enum-told c = search needs
 
 returns : tie.Need-returns
-returns c = let a = c .before .before .before .before .before .before .args in
-    brings-told (a .program .now) (a .nodes) (a .e) (a .m) (a .p) (a .room) (a .lengths .now) (a .work .now) (c .before .before .attendance-at .result) (c .before .before .attendance-at .ensures) (a .before) _ (rw (c .enum-told .given .1))
+returns c = let a = c .before .before .before .before .before .args in
+    brings-told (a .node) (a .e) (a .m) (a .p) (a .room) (a .lengths .now) (a .work .now) (c .before .before .attendance-at .result) (c .before .before .attendance-at .ensures) (a .before) _ (rw (c .enum-told .given .1))
 
 enum-known-offer-2 : tie.Need-enum-known-offer-2
 enum-known-offer-2 c = search needs
@@ -26,12 +26,12 @@ enum-told-2 : tie.Need-enum-told-2
 enum-told-2 c = search needs
 
 returns-2 : tie.Need-returns-2
-returns-2 c = let a = c .before .before .before .before .before .before .before .before .before .args in
-    brings-told (a .program .now) (a .nodes) (a .e) (a .m) (a .p) (a .room) (a .lengths .now) (a .work .now) (c .before .before .before .before .before .attendance-at .result) (c .before .before .before .before .before .attendance-at .ensures) (a .before) _ (rw (c .before .before .before .offer .given .1, c .enum-told2 .given .1))
+returns-2 c = let a = c .before .before .before .before .before .before .before .before .args in
+    brings-told (a .node) (a .e) (a .m) (a .p) (a .room) (a .lengths .now) (a .work .now) (c .before .before .before .before .before .attendance-at .result) (c .before .before .before .before .before .attendance-at .ensures) (a .before) _ (rw (c .before .before .before .offer .given .1, c .enum-told2 .given .1))
 
 returns-3 : tie.Need-returns-3
-returns-3 c = let a = c .before .before .before .before .before .before .before .before .before .before .args in
-    brings-told (a .program .now) (a .nodes) (a .e) (a .m) (a .p) (a .room) (a .lengths .now) (a .work .now) (c .before .before .before .before .before .before .attendance-at .result) (c .before .before .before .before .before .before .attendance-at .ensures) (a .before) _
+returns-3 c = let a = c .before .before .before .before .before .before .before .before .before .args in
+    brings-told (a .node) (a .e) (a .m) (a .p) (a .room) (a .lengths .now) (a .work .now) (c .before .before .before .before .before .before .attendance-at .result) (c .before .before .before .before .before .before .attendance-at .ensures) (a .before) _
     (rw (c .before .before .before .before .offer .given .1, c .before .offer2 .given .1, read32 (c .before .offer2 .given .0 .0) (record { sfits = omega arith })))
 
 pub brings-spec : {M : Type 1} → statement M

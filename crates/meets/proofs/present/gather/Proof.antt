@@ -1,27 +1,49 @@
 -- `meets::present::gather` meets its contract. Assumes nothing.
-use Prim.Native.Nat.{_-_}
+use mathlib.Core.Path.{_≡_, ap, _∙_}
+use mathlib.Core.Bool.{true}
 use native.Mathlib.Omega.{arith}
 use borrow.Author.Needs.{needs}
-use Rattle.parties.proofs.LoopLaws.{loop-falls}
-use Rattle.meets.proofs.MeetLaws.{GatheringAt, gather-none, gather-all, gather-more, gather-missing}
+use Rattle.parties.specs.Sets.{member, meet, all}
+use Rattle.parties.specs.SetLaws.{below-within}
+use Rattle.parties.proofs.LoopLaws.{LeftAt, Here, left-start, left-here, left-next, left-over, left-falls}
+use Rattle.rules.specs.declared.effects.Offer.the-variants.{Empty}
+use Rattle.meets.proofs.MeetLaws.{Gathering, below-in, gather-passes, gather-none, gather-all, gather-more, gather-missing}
 use Rattle.meets.proofs.present.gather.Statement.{statement}
 use Rattle.meets.proofs.present.gather.Tie as tie
 
 abbrev Inv-loop : tie.InvT-loop
-Inv-loop program nodes e m n room lengths work brought₀ p₀ brought p = GatheringAt program nodes e m n room lengths work brought p
+Inv-loop node e m n room lengths work brought₀ left₀ brought left = LeftAt left₀ n (Gathering node e m n room lengths work brought) left
 
 abbrev μ-loop : tie.MeasureT-loop
-μ-loop program nodes e m n room lengths work brought₀ p₀ brought p = n - p
+μ-loop node e m n room lengths work brought₀ left₀ brought left = left .bits
 
-next-requires : tie.Need-next-requires Inv-loop μ-loop
-next-requires c κs = search needs
+all-requires : tie.Need-all-requires Inv-loop μ-loop
+all-requires c κs = search needs
+
+meet-requires : tie.Need-meet-requires Inv-loop μ-loop
+meet-requires c κs = search needs
+
+members : (c : tie.After-meet Inv-loop μ-loop) → c .meet .result ≡ meet (c .before .before .before .before .args .m) (all (c .before .before .before .before .args .n))
+members c = c .meet .ensures ∙ ap (meet (c .before .before .before .before .args .m)) (c .before .all .ensures)
 
 loop-holds : tie.Need-loop-holds Inv-loop μ-loop
-loop-holds c = let a = c .before .before .before .before .args in
-    gather-none (a .program .now) (a .nodes) (a .e) (a .m) (a .n) (a .room) (a .lengths .now) (a .work .now) (c .next .result) (omega arith) (c .next .ensures)
+loop-holds c = let a = c .before .before .before .before .args in left-start _ _ (gather-passes (a .node) (a .e) (a .m) (a .n) (a .room) (a .lengths .now) (a .work .now) _ (members c) Empty) (gather-none (a .node) (a .e) (a .m) (a .n) (a .room) (a .lengths .now) (a .work .now))
+
+is-empty-requires : tie.Need-is-empty-requires Inv-loop μ-loop
+is-empty-requires c κs = search needs
+
+lowest-requires : tie.Need-lowest-requires Inv-loop μ-loop
+lowest-requires c κs = search needs
+
+here : (c : tie.After-lowest Inv-loop μ-loop)
+    → let a = c .before .before .before .before .before .before .before .before .args in Here (c .before .before .before .before .meet .result) (a .n) (Gathering (a .node) (a .e) (a .m) (a .n) (a .room) (a .lengths .now) (a .work .now) (c .before .before .before .loop .brought)) (c .before .before .before .loop .left) (c .lowest .result)
+here c = left-here _ _ (omega arith) (c .before .before .before .loop .inv) (c .before .before .is-empty .ensures) (rw (members (c .before .before .before .before)) (below-within _ _)) (c .before .if1 .taken) (c .lowest .ensures)
+
+inside : (c : tie.After-lowest Inv-loop μ-loop) → member (c .lowest .result) (c .before .before .before .before .before .before .before .before .args .m) ≡ true
+inside c = let h = here c in below-in _ (c .before .before .before .before .before .before .before .before .args .m) (c .before .before .before .before .before .before .before .before .args .n) (members (c .before .before .before .before)) (c .lowest .result) (h .below) ∙ h .inside
 
 brings-requires : tie.Need-brings-requires Inv-loop μ-loop
-brings-requires c κs = (omega arith, omega arith)
+brings-requires c κs = (omega (arith, here c .below), omega (arith, here c .below))
 
 enum-known-more : tie.Need-enum-known-more Inv-loop μ-loop
 enum-known-more c = search needs
@@ -30,28 +52,22 @@ enum-told : tie.Need-enum-told Inv-loop μ-loop
 enum-told c = search needs
 
 returns : tie.Need-returns Inv-loop μ-loop
-returns c = let a = c .before .before .before .before .before .before .before .before .before .args in
-    let l = c .before .before .before .before .loop in
-    gather-missing (a .program .now) (a .nodes) (a .e) (a .m) (a .n) (a .room) (a .lengths .now) (a .work .now) (l .p) (l .brought) (c .before .before .before .loop-test .taken) (l .inv) (c .before .before .brings .result) (c .before .before .brings .ensures) (c .enum-told .given .1)
+returns c = let a = c .before .before .before .before .before .before .before .before .before .before .before .args in gather-missing (a .node) (a .e) (a .m) (a .n) (a .room) (a .lengths .now) (a .work .now) (c .before .before .before .lowest .result) (c .before .before .before .before .before .before .loop .brought) (here (c .before .before .before) .below) (inside (c .before .before .before)) (c .before .before .brings .result) (c .before .before .brings .ensures) (c .enum-told .given .1)
 
-add-next : tie.Need-add-next Inv-loop μ-loop
-add-next c = omega arith
-
-next-requires-2 : tie.Need-next-requires-2 Inv-loop μ-loop
-next-requires-2 c κs = search needs
+rest-requires : tie.Need-rest-requires Inv-loop μ-loop
+rest-requires c κs = search needs
 
 loop-less : tie.Need-loop-less Inv-loop μ-loop
-loop-less c = let a = c .before .before .before .before .before .before .before .before .before .before .before .args in
-    rw (c .next2 .ensures) (loop-falls (a .m) (a .n) (c .before .before .before .before .before .before .loop .p) (omega arith) (c .before .before .before .before .before .loop-test .taken))
+loop-less c = left-falls _ _ (here (c .before .before .before .before .before)) (c .rest .ensures)
 
 loop-again : tie.Need-loop-again Inv-loop μ-loop
-loop-again c = let a = c .before .before .before .before .before .before .before .before .before .before .before .args in
-    let l = c .before .before .before .before .before .before .loop in
-    gather-more (a .program .now) (a .nodes) (a .e) (a .m) (a .n) (a .room) (a .lengths .now) (a .work .now) (l .p) (l .brought) (c .before .before .before .before .before .loop-test .taken) (l .inv) (c .before .before .before .before .brings .result) (c .before .before .before .before .brings .ensures) _ (c .next2 .result) (omega arith) (c .next2 .ensures) (c .before .before .more .given .1)
+loop-again c = let a = c .before .before .before .before .before .before .before .before .before .before .before .before .before .args in
+    let h = here (c .before .before .before .before .before) in
+    left-next _ _ h (c .rest .ensures) (gather-passes (a .node) (a .e) (a .m) (a .n) (a .room) (a .lengths .now) (a .work .now) _ (members (c .before .before .before .before .before .before .before .before .before)) _)
+    (gather-more (a .node) (a .e) (a .m) (a .n) (a .room) (a .lengths .now) (a .work .now) (c .before .before .before .before .before .lowest .result) (c .before .before .before .before .before .before .before .before .loop .brought) (h .below) (inside (c .before .before .before .before .before)) (c .before .before .before .before .brings .result) (c .before .before .before .before .brings .ensures) _ (c .before .before .more .given .1) (h .so-far))
 
 returns-2 : tie.Need-returns-2 Inv-loop μ-loop
-returns-2 c = let a = c .before .before .before .before .before .before .args in
-    gather-all (a .program .now) (a .nodes) (a .e) (a .m) (a .n) (a .room) (a .lengths .now) (a .work .now) (c .before .loop .brought) (c .before .loop .p) (c .loop-test .left) (c .before .loop .inv)
+returns-2 c = let a = c .before .before .before .before .before .before .before .args in gather-all (a .node) (a .e) (a .m) (a .n) (a .room) (a .lengths .now) (a .work .now) (c .before .before .loop .brought) (left-over _ _ (omega arith) (c .before .before .loop .inv) (c .before .is-empty .ensures) (c .if1 .left))
 
 pub gather-spec : {M : Type 1} → statement M
 gather-spec =
@@ -59,14 +75,16 @@ gather-spec =
     (tie.spec
     Inv-loop
     μ-loop
-    next-requires
+    all-requires
+    meet-requires
     loop-holds
+    is-empty-requires
+    lowest-requires
     brings-requires
     enum-known-more
     enum-told
     returns
-    add-next
-    next-requires-2
+    rest-requires
     loop-less
     loop-again
     returns-2)

@@ -1,10 +1,11 @@
 -- `site::own::meeting` meets its contract. Assumes nothing.
-use mathlib.Core.Path.{sym, ap, _∙_}
+use mathlib.Core.Path.{refl, sym, ap, _∙_}
+use Rattle.rules.specs.Names.{namesOf}
+use Rattle.rules.specs.Rules.{judge}
 use Rattle.rules.specs.declared.effects.View.the-variants.{Site}
-use Rattle.rules.specs.declared.effects.Effect.{Effect}
 use Rattle.area.specs.Levels.{namesAt}
+use Rattle.lookup.proofs.JointLaws.{one-bound, one-unbound}
 use Rattle.site.specs.Own.{meetingOf}
-use Rattle.site.proofs.OwnLaws.{share-bound, share-unbound, reveal-bound, reveal-unbound}
 use borrow.Author.Needs.{needs}
 use Rattle.site.proofs.own.meeting.Statement.{statement}
 use Rattle.site.proofs.own.meeting.Tie as tie
@@ -22,8 +23,9 @@ enum-told : tie.Need-enum-told
 enum-told c = search needs
 
 returns : tie.Need-returns
+unfolding namesOf
 returns c = let a = c .before .before .before .before .before .before .before .before .before .args in
-    rw (c .before .before .before .before .node .given .1) (share-unbound (Site (a .p)) (a .t .mode) (namesAt (a .area .now) (a .t .depth .frames)) _ _ _ _ (sym (c .enum-told .given .1) ∙ c .before .before .seek .ensures))
+    rw (c .before .before .before .before .node .given .1) (ap meetingOf (one-unbound (Site (a .p)) _ (a .t .mode) (namesAt (a .area .now) (a .t .depth .frames)) _ refl _ (sym (c .enum-told .given .1) ∙ c .before .before .seek .ensures)))
 
 share-requires : tie.Need-share-requires
 share-requires c κs = search needs
@@ -44,8 +46,9 @@ enum-told-2 : tie.Need-enum-told-2
 enum-told-2 c = search needs
 
 returns-2 : tie.Need-returns-2
+unfolding namesOf
 returns-2 c = let a = c .before .before .before .before .before .before .before .before .before .args in
-    rw (c .before .before .before .before .node2 .given .1) (reveal-unbound (Site (a .p)) (a .t .mode) (namesAt (a .area .now) (a .t .depth .frames)) _ _ _ (sym (c .enum-told2 .given .1) ∙ c .before .before .seek2 .ensures))
+    rw (c .before .before .before .before .node2 .given .1) (ap meetingOf (one-unbound (Site (a .p)) _ (a .t .mode) (namesAt (a .area .now) (a .t .depth .frames)) _ refl _ (sym (c .enum-told2 .given .1) ∙ c .before .before .seek2 .ensures)))
 
 reveal-requires : tie.Need-reveal-requires
 reveal-requires c κs = search needs
@@ -57,12 +60,14 @@ enum-told-3 : tie.Need-enum-told-3
 enum-told-3 c = search needs
 
 returns-3 : tie.Need-returns-3
+unfolding namesOf judge
 returns-3 c = let a = c .before .before .before .before .before .before .before .before .before .before .before .before .args in
-    rw (c .before .before .before .before .before .before .before .node .given .1) (c .meeting-of .ensures ∙ ap (λ (e : Effect). meetingOf e) (c .before .share .ensures ∙ sym (share-bound (Site (a .p)) (a .t .mode) (namesAt (a .area .now) (a .t .depth .frames)) _ _ _ _ (sym (c .before .before .before .b .given .1) ∙ c .before .before .before .before .before .seek .ensures))))
+    rw (c .before .before .before .before .before .before .before .node .given .1) (c .meeting-of .ensures ∙ ap meetingOf (c .before .share .ensures ∙ one-bound (Site (a .p)) _ (a .t .mode) (namesAt (a .area .now) (a .t .depth .frames)) _ refl _ (sym (c .before .before .before .b .given .1) ∙ c .before .before .before .before .before .seek .ensures)))
 
 returns-4 : tie.Need-returns-4
+unfolding namesOf judge
 returns-4 c = let a = c .before .before .before .before .before .before .before .before .before .before .before .before .args in
-    rw (c .before .before .before .before .before .before .before .node2 .given .1) (c .meeting-of2 .ensures ∙ ap (λ (e : Effect). meetingOf e) (c .before .reveal .ensures ∙ sym (reveal-bound (Site (a .p)) (a .t .mode) (namesAt (a .area .now) (a .t .depth .frames)) _ _ _ (sym (c .before .before .before .b2 .given .1) ∙ c .before .before .before .before .before .seek2 .ensures))))
+    rw (c .before .before .before .before .before .before .before .node2 .given .1) (c .meeting-of2 .ensures ∙ ap meetingOf (c .before .reveal .ensures ∙ one-bound (Site (a .p)) _ (a .t .mode) (namesAt (a .area .now) (a .t .depth .frames)) _ refl _ (sym (c .before .before .before .b2 .given .1) ∙ c .before .before .before .before .before .seek2 .ensures)))
 
 returns-5 : tie.Need-returns-5
 returns-5 c = search needs

@@ -1,5 +1,5 @@
 -- `site::own::weighed` meets its contract. Assumes nothing.
-use Rattle.site.proofs.OwnLaws.{weighs-acts, weighs-attends, weighs-lacks}
+use Rattle.site.proofs.OwnLaws.{no-meeting, weighs-acts, weighs-attends, weighs-lacks}
 use borrow.Author.Needs.{needs}
 use Rattle.site.proofs.own.weighed.Statement.{statement}
 use Rattle.site.proofs.own.weighed.Tie as tie
@@ -8,7 +8,7 @@ enum-known-effect : tie.Need-enum-known-effect
 enum-known-effect c = search needs
 
 returns : tie.Need-returns
-returns c = let a = c .before .args in weighs-acts (a .p .index) (a .effect) (a .room) (a .used) (c .match .keys2)
+returns c = let a = c .before .args in weighs-acts (a .p .index) (a .effect) (a .room) (a .used) (no-meeting (a .effect) (c .match .keys2))
 
 room-for-requires : tie.Need-room-for-requires
 room-for-requires c κs = search needs
