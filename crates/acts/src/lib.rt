@@ -1,4 +1,6 @@
 // What a site does, in its own area and its own record. Each function answers how many bytes of the record are then used.
+#![tactic(auto)]
+
 ghost use Rattle.std.specs.Prelude.{◌≤◌, length};
 ghost use Rattle.limits.specs.Limits.{max_frames};
 ghost use Rattle.values.specs.Values.{slice};

@@ -1,4 +1,6 @@
 // Steps that need nothing but the area: a node is read and its rule asked, and where control just moves, it moves at once.
+#![tactic(auto)]
+
 pub mod strides; // strides.rt: such steps one after the other, by whoever's turn it is
 
 ghost use Rattle.std.specs.Prelude.{◌≡◌, ◌≤◌, length};
@@ -15,7 +17,7 @@ use lookup::Sought;
 use nodes::Node;
 use rules::effects::{Effect, View};
 
-#[derive(Drop)]
+#[derive(Clone, Copy)]
 pub enum Advanced {
     Moved(Next),
     // what else the rule asks for
@@ -37,7 +39,7 @@ fn by_rule(view: View, node: Node, t: Stand, w: &mut [u8]) -> Advanced
 }
 
 // What is done of a node before its rule is asked.
-#[derive(Drop)]
+#[derive(Clone, Copy)]
 enum Haste {
     Moved(Next),
     Joins,

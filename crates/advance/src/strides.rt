@@ -13,7 +13,7 @@ use rules::effects::View;
 use seats::Seat;
 
 // What a turn comes to.
-#[derive(Drop)]
+#[derive(Clone, Copy)]
 pub enum Came {
     // from where control stood, a step
     Did(Stand, Advanced),
@@ -22,7 +22,7 @@ pub enum Came {
 }
 
 // Where a step leads that another one may follow.
-#[derive(Drop)]
+#[derive(Clone, Copy)]
 enum Onward {
     To(Stand),
     Not,
@@ -100,7 +100,7 @@ fn in_row(joint: bool, t: Stand, p: u8, program: &[u8], nodes: usize, w: &mut [u
 }
 
 // Some turns that led on, and what the one after them came to.
-#[derive(Drop)]
+#[derive(Clone, Copy)]
 pub struct Strode {
     pub moves: u32,
     pub came: Came,
@@ -144,7 +144,7 @@ pub fn strides(
 }
 
 // Some moves of the single run, the stand that they led to, and what the step from there came to.
-#[derive(Drop)]
+#[derive(Clone, Copy)]
 pub struct Gone {
     pub moves: u32,
     pub stand: Stand,

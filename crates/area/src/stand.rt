@@ -10,14 +10,14 @@ pub const AREA: usize = 16384;
 // What of it is used: areas that lie this far apart share the lines of a cache more evenly.
 pub const ROW: usize = 12608;
 
-#[derive(Drop)]
+#[derive(Clone, Copy)]
 pub struct Stand {
     pub node: u16,
     pub mode: PartySet,
     pub depth: Depth,
 }
 
-#[derive(Drop)]
+#[derive(Clone, Copy)]
 pub enum Next {
     On(Stand),
     Ends(Value),

@@ -1,4 +1,6 @@
 // Whether a site is at a meeting, and what it brings.
+#![tactic(auto)]
+
 ghost use Rattle.std.specs.Prelude.{◌≡◌, ◌≤◌, length};
 ghost use Rattle.limits.specs.Limits.{max_frames};
 ghost use Rattle.rules.specs.Joint.{agrees};
@@ -13,7 +15,7 @@ use rules::effects::Offer;
 use seats::Seat;
 use site::own::Invitation;
 
-#[derive(Drop)]
+#[derive(Clone, Copy)]
 pub enum Attendance {
     Away,
     There(Offer),

@@ -5,7 +5,7 @@ ghost use Rattle.cases.specs.Rows.{numbers_at, sum};
 ghost use Rattle.cases.specs.Input.{told, laid_out, counts_told};
 
 // Where the fields stand.
-#[derive(Drop)]
+#[derive(Clone, Copy)]
 pub struct Layout {
     // the program starts at 2 and ends here, where k stands
     pub end: usize,
@@ -21,7 +21,7 @@ pub struct Layout {
     pub turns: usize,
 }
 
-#[derive(Drop)]
+#[derive(Clone, Copy)]
 pub enum Parsed {
     Bad,
     Good(Layout),

@@ -2,7 +2,7 @@
 ghost use Rattle.std.specs.Prelude.{◌≡◌, ◌≤◌, length};
 ghost use Rattle.cases.specs.Lending.{up_to, lending_of};
 
-#[derive(Drop)]
+#[derive(Clone, Copy)]
 pub struct Lending {
     pub records: usize,
     pub lengths: usize,

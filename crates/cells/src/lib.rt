@@ -1,5 +1,7 @@
 // What a name is bound to, in nine lent bytes: the sort, the integer, the place set, the holders.
 // A cell of zeros is unbound, so a zeroed level of names has none bound.
+#![tactic(auto)]
+
 ghost use Rattle.std.specs.Prelude.{◌≡◌, Bool, ◌+◌, ◌≤◌, length};
 ghost use Rattle.std.proofs.lemmas.List.Edits.{sets};
 ghost use Rattle.cells.specs.Cells.{width, cell, cell_bytes, cell_at, RangedValue, Ranged};
@@ -8,7 +10,7 @@ use parties::sets::PartySet;
 use values::value::Value;
 
 // Unbound is not nothing: a name may be bound to nothing.
-#[derive(Drop)]
+#[derive(Clone, Copy)]
 pub enum Bound {
     Unbound,
     To(Value),

@@ -1,4 +1,6 @@
 // A meeting is concluded: all members take part in it, or all stop.
+#![tactic(auto)]
+
 ghost use Rattle.std.specs.Prelude.{◌*◌, ◌+◌, ◌≤◌, ◌<◌, length};
 ghost use Rattle.limits.specs.Limits.{max_parties, max_frames};
 ghost use Rattle.area.specs.Rows.{row_size};
@@ -10,7 +12,7 @@ use parties::sets::PartySet;
 use rules::effects::Meeting;
 use seats::Seat;
 
-#[derive(Drop)]
+#[derive(Clone, Copy)]
 pub enum Outcome {
     // the meeting, and the number that it was about
     Joins(Meeting, i32),

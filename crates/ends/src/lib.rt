@@ -1,4 +1,6 @@
 // What comes before the turns, and after them: the check of the turn list, the sites at the start, and whether all have finished.
+#![tactic(auto)]
+
 ghost use Rattle.std.specs.Prelude.{◌≡◌, ◌*◌, ◌≤◌, length};
 ghost use Rattle.limits.specs.Limits.{max_parties};
 ghost use Rattle.rules.specs.Calls.{bad_turn_from};
@@ -8,7 +10,7 @@ ghost use Rattle.ends.specs.Ends.{found, finished_at, AllFirst, OpensOne, OpensA
 use area::stand::{ROW, Stand};
 use seats::Seat;
 
-#[derive(Drop)]
+#[derive(Clone, Copy)]
 pub enum BadTurn {
     None,
     // the index

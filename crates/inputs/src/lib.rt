@@ -1,9 +1,11 @@
 // Each party's inputs lie one after the other in the lent list: `at` has where each party's next one is, `end` where its inputs end.
+#![tactic(auto)]
+
 ghost use Rattle.std.specs.Prelude.{◌≡◌, ◌&&◌, ◌≤◌, ◌<◌, ◌-◌, eqb, length, get_or, take, drop};
 ghost use Rattle.rules.specs.Lent.{sum};
 ghost use Rattle.inputs.specs.Inputs.{Divided, head_of};
 
-#[derive(Drop)]
+#[derive(Clone, Copy)]
 pub enum Taken {
     Input(i32),
     UsedUp,

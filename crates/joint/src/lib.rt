@@ -1,2 +1,4 @@
 // The joint run.
+#![tactic(auto)]
+
 pub mod runs; // runs.rt: the run and the call

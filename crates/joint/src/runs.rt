@@ -18,7 +18,7 @@ use parties::sets::PartySet;
 use program::check::Verdict;
 use records::events::Event;
 
-#[derive(Drop)]
+#[derive(Clone, Copy)]
 pub enum Answer {
     // the refusal, and its place
     Refused(u8, usize),
@@ -123,7 +123,7 @@ fn run_lent(
     work: &mut [u8],
 ) -> Answer
     requires { (check_answer program.now ≡ accepted n nodes) × (length counts.now ≡ n) × (sum counts.now ≡ length inputs.now) × (bad_turn_from n 0 turns.now ≡ none) }
-    ensures { Is (joint_call (record { program = program.entry.now; counts = counts.now; inputs = inputs.now; records = bytes.old; lengths = lengths.old; work = work.old }) turns.now) result bytes.new lengths.new work.new }
+    ensures { Is (joint_call (record { program = program.now; counts = counts.now; inputs = inputs.now; records = bytes.old; lengths = lengths.old; work = work.old }) turns.now) result bytes.new lengths.new work.new }
 {
     let parties = n as usize;
     let room = bytes.len() / parties;
@@ -156,7 +156,7 @@ fn run_good(
     work: &mut [u8],
 ) -> Answer
     requires { check_answer program.now ≡ accepted n nodes }
-    ensures { Is (joint_call (record { program = program.entry.now; counts = counts.now; inputs = inputs.now; records = bytes.old; lengths = lengths.old; work = work.old }) turns.now) result bytes.new lengths.new work.new }
+    ensures { Is (joint_call (record { program = program.now; counts = counts.now; inputs = inputs.now; records = bytes.old; lengths = lengths.old; work = work.old }) turns.now) result bytes.new lengths.new work.new }
 {
     if !counts_fit(counts, n, inputs.len()) {
         return Answer::Refused(refusals::BAD_COUNTS, 0);
@@ -179,7 +179,7 @@ pub fn run(
     lengths: &mut [usize],
     work: &mut [u8],
 ) -> Answer
-    ensures { Is (joint_call (record { program = program.entry.now; counts = counts.now; inputs = inputs.now; records = bytes.old; lengths = lengths.old; work = work.old }) turns.now) result bytes.new lengths.new work.new }
+    ensures { Is (joint_call (record { program = program.now; counts = counts.now; inputs = inputs.now; records = bytes.old; lengths = lengths.old; work = work.old }) turns.now) result bytes.new lengths.new work.new }
 {
     match program::check::check(program) {
         Verdict::Bad(place) => Answer::Refused(refusals::BAD_PROGRAM, place),

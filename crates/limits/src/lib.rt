@@ -1,13 +1,15 @@
 // A party, a name and a count of frames. Each stands with its limit, MAX, and the constructor that keeps to it.
+#![tactic(auto)]
+
 ghost use Rattle.std.specs.Prelude.{◌≡◌};
 ghost use Rattle.limits.specs.Limits.{party_of, name_of, depth_of, deeper_than};
 
-#[derive(Drop)]
+#[derive(Clone, Copy)]
 pub struct Party {
     pub index: u8,
 }
 
-#[derive(Drop)]
+#[derive(Clone, Copy)]
 pub enum MadeParty {
     Is(Party),
     Not,
@@ -30,12 +32,12 @@ impl Party {
     }
 }
 
-#[derive(Drop)]
+#[derive(Clone, Copy)]
 pub struct Name {
     pub index: u8,
 }
 
-#[derive(Drop)]
+#[derive(Clone, Copy)]
 pub enum MadeName {
     Is(Name),
     Not,
@@ -57,12 +59,12 @@ impl Name {
 }
 
 // How many frames are down.
-#[derive(Drop)]
+#[derive(Clone, Copy)]
 pub struct Depth {
     pub frames: u8,
 }
 
-#[derive(Drop)]
+#[derive(Clone, Copy)]
 pub enum MadeDepth {
     Is(Depth),
     Not,

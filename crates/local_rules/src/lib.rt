@@ -1,4 +1,6 @@
 // The rules that want their values at exactly m: OP, MUX, WRITE, EMBED and CASE; and READ, which has none.
+#![tactic(auto)]
+
 ghost use Rattle.std.specs.Prelude.{◌≡◌, cond, pos};
 ghost use Rattle.numbers.specs.Integers.{operate, same_integer};
 ghost use Rattle.values.specs.Values.{held};
@@ -75,7 +77,7 @@ pub fn read(m: PartySet) -> Effect
 }
 
 // What a rule that wants x clear at exactly m sees of it.
-#[derive(Drop)]
+#[derive(Clone, Copy)]
 enum Clear {
     Is(i32),
     Not,

@@ -1,4 +1,6 @@
 // The names of a node, all looked up at once in the mode, and what its rule then asks for.
+#![tactic(auto)]
+
 ghost use Rattle.std.specs.Prelude.{◌≡◌, ◌≤◌, [], ◌∷◌, length, take};
 ghost use Rattle.limits.specs.Limits.{max_frames};
 ghost use Rattle.rules.specs.Names.{look, look_all, names_of};
@@ -17,7 +19,7 @@ use rules::effects::{Effect, View};
 use values::value::Value;
 
 // What is found of a name.
-#[derive(Drop)]
+#[derive(Clone, Copy)]
 pub enum Sought {
     Found(Binding),
     Unbound(Name),
@@ -44,7 +46,7 @@ pub fn seek(w: &[u8], depth: Depth, m: PartySet, x: Name) -> Sought
 }
 
 // The names that a node reads, in the order written: the first so many of three.
-#[derive(Drop)]
+#[derive(Clone, Copy)]
 pub struct Reading {
     pub many: u8,
     pub x: Name,
@@ -80,7 +82,7 @@ pub fn names_read(node: Node) -> Reading
 }
 
 // The bindings of a node, or the first of its names that is unbound.
-#[derive(Drop)]
+#[derive(Clone, Copy)]
 pub enum Handed {
     All(Bindings),
     Unbound(Name),

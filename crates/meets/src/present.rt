@@ -12,7 +12,7 @@ use parties::sets::PartySet;
 use rules::effects::{Meeting, Offer};
 
 // What the members bring, or that one is away.
-#[derive(Drop)]
+#[derive(Clone, Copy)]
 pub enum Gathered {
     Missing,
     All(Offer),

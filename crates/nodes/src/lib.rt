@@ -1,5 +1,7 @@
 // The nodes of a program, with their fields as document 01's table has them, and reading one at its place.
 // Reading answers zeros past the program's end, so that no reader needs a fact of the check.
+#![tactic(auto)]
+
 ghost use Rattle.std.specs.Prelude.{◌≡◌, ◌/◌, ◌%◌, ◌<◌, get_or};
 ghost use Rattle.words.specs.Words.{number_at, Spells};
 ghost use Rattle.parties.specs.SetBytes.{set_at};
@@ -9,7 +11,7 @@ use limits::{Name, Party};
 use numbers::integers::Operation;
 use parties::sets::PartySet;
 
-#[derive(Drop)]
+#[derive(Clone, Copy)]
 pub enum Node {
     VAR(Name),
     INT(i32),
@@ -164,7 +166,7 @@ pub fn node_at(p: &[u8], at: usize) -> Node
 }
 
 // A node as whoever looks only for meetings sees it: so small that it need not pass through memory, as a Node does.
-#[derive(Drop)]
+#[derive(Clone, Copy)]
 pub enum JointNode {
     SHARE(Party, PartySet, Name),
     REVEAL(PartySet, Name),

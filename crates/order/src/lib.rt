@@ -1,8 +1,10 @@
 // Two records of one site: which continues the other, and by what.
+#![tactic(auto)]
+
 ghost use Rattle.std.specs.Prelude.{◌≡◌};
 ghost use Rattle.order.specs.Order.{begins, order_of, Continues};
 
-#[derive(Drop)]
+#[derive(Clone, Copy)]
 pub enum Order {
     FirstLonger,
     SecondLonger,

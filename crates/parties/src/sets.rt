@@ -5,7 +5,7 @@ ghost use Rattle.parties.specs.Sets.{member, meet, join, is_empty, same_set, cou
 
 use limits::Party;
 
-#[derive(Drop)]
+#[derive(Clone, Copy)]
 pub struct PartySet {
     pub bits: u16,
 }

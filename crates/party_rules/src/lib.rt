@@ -1,4 +1,6 @@
 // The rules that know whether they run for all of a mode or at one site: SHARE, REVEAL and PAR.
+#![tactic(auto)]
+
 ghost use Rattle.std.specs.Prelude.{◌≡◌, cond};
 ghost use Rattle.parties.specs.Sets.{meet};
 ghost use Rattle.values.specs.declared.value.Value.TheVariants.{Nothing};

@@ -1,4 +1,6 @@
 // The table of places: where each node starts, two bytes a node, low byte first, at the head of some lent bytes.
+#![tactic(auto)]
+
 ghost use Rattle.std.specs.Prelude.{◌≡◌, ◌*◌, ◌<◌, ◌≤◌, length};
 ghost use Rattle.words.specs.Words.{number_at};
 ghost use Rattle.places.specs.Places.{next_at, Tabled};

@@ -10,7 +10,7 @@ use crate::kinds::Body;
 use limits::Party;
 use nodes::{Node, byte, half};
 
-#[derive(Drop)]
+#[derive(Clone, Copy)]
 pub enum Verdict {
     // the number of parties, and of nodes
     Good(u8, u16),
@@ -18,7 +18,7 @@ pub enum Verdict {
     Bad(usize),
 }
 
-#[derive(Drop)]
+#[derive(Clone, Copy)]
 enum Found {
     // where the next record starts, and the record's reach
     Good(usize, usize),

@@ -3,7 +3,7 @@ ghost use Rattle.std.specs.Prelude.{◌≡◌};
 ghost use Rattle.program.specs.Kinds.{body_of};
 
 // Which fields a body has.
-#[derive(Drop)]
+#[derive(Clone, Copy)]
 pub enum Rule {
     // none that can be bad
     Free,
@@ -25,7 +25,7 @@ pub enum Rule {
     Call,
 }
 
-#[derive(Drop)]
+#[derive(Clone, Copy)]
 pub enum Body {
     // the body's length
     Node(usize, Rule),

@@ -1,12 +1,14 @@
 // The reader of a record keeps the bytes and a position together: a struct that holds the lent slice. Each function over it takes it apart
 // and leaves the work to a function on the slice and the number. The borrow checker covers no function over such a struct, so each is proved by hand.
+#![tactic(auto)]
+
 ghost use Rattle.std.specs.Prelude.{◌≡◌};
 ghost use Rattle.walk.specs.Walk.{told, step_answer};
 ghost use Rattle.reader.specs.Next.{place_after};
 
 use walk::{Cursor, Step};
 
-#[derive(Drop)]
+#[derive(Clone, Copy)]
 pub struct Reader<'a> {
     pub bytes: &'a [u8],
     pub at: usize,

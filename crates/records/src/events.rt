@@ -10,7 +10,7 @@ use limits::Party;
 use parties::sets::PartySet;
 use values::value::Value;
 
-#[derive(Drop)]
+#[derive(Clone, Copy)]
 pub enum Event {
     Read(i32),
     Wrote(i32),
@@ -26,7 +26,7 @@ pub enum Event {
     Stopped(u8, u16),
 }
 
-#[derive(Drop)]
+#[derive(Clone, Copy)]
 pub enum Appended {
     // the bytes used after it
     To(usize),

@@ -1,4 +1,6 @@
 // The numbers of the refusals, in the order tried. specs/Numbers.antt has document 01's words for each.
+#![tactic(auto)]
+
 pub const BAD_PROGRAM: u8 = 1;
 
 pub const BAD_COUNTS: u8 = 2;

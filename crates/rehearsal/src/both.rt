@@ -84,7 +84,7 @@ fn show_both(
     at: usize,
 ) -> usize
     requires { Exact lending records.old lengths.old × Holds lending records.old lengths.old work.old out.old at }
-    ensures { PutsAtMost (2 * most_of_one) (shown_case lending (record { program = program.entry.now; counts = counts.now; inputs = inputs.now; budget = budget; turns = turns.now })) at result out.old out.new }
+    ensures { PutsAtMost (2 * most_of_one) (shown_case lending (record { program = program.now; counts = counts.now; inputs = inputs.now; budget = budget; turns = turns.now })) at result out.old out.new }
 {
     let single = lending.single;
     let joint = lending.joint;

@@ -1,2 +1,4 @@
 // What `rehearse` prints for an input.
+#![tactic(auto)]
+
 pub mod both; // both.rt: both runs of an input, printed

@@ -1,4 +1,6 @@
 // Reads a program with its counts, inputs, budget and turns from standard input, and prints both of its runs (document 01, "The program `rehearse`").
+#![tactic(auto)]
+
 ghost use Rattle.std.specs.Prelude.{◌≤◌, length};
 
 use cases::lending::Lending;

@@ -2,14 +2,14 @@
 use limits::Name;
 use values::value::Value;
 
-#[derive(Drop)]
+#[derive(Clone, Copy)]
 pub struct Binding {
     pub name: Name,
     pub value: Value,
 }
 
 // Of the node's names, in the order written. A node with fewer leaves the others blank, and its rule does not look at them.
-#[derive(Drop)]
+#[derive(Clone, Copy)]
 pub struct Bindings {
     pub x: Binding,
     pub y: Binding,

@@ -4,14 +4,14 @@ use parties::sets::PartySet;
 use values::value::Value;
 
 // Who takes the step: all of the mode at once, or one site on its own slice.
-#[derive(Drop)]
+#[derive(Clone, Copy)]
 pub enum View {
     Whole,
     Site(Party),
 }
 
 // Where control goes.
-#[derive(Drop)]
+#[derive(Clone, Copy)]
 pub enum Move {
     // a value is handed back
     Hand(Value),
@@ -25,7 +25,7 @@ pub enum Move {
 }
 
 // What all of a mode do at once.
-#[derive(Drop)]
+#[derive(Clone, Copy)]
 pub enum Meeting {
     // a, q
     Sharing(Party, PartySet),
@@ -34,14 +34,14 @@ pub enum Meeting {
 }
 
 // What one brings to a meeting.
-#[derive(Drop)]
+#[derive(Clone, Copy)]
 pub enum Offer {
     Empty,
     // a number, and the set of those who have to bring it
     Secret(i32, PartySet),
 }
 
-#[derive(Drop)]
+#[derive(Clone, Copy)]
 pub enum Effect {
     Refuse(u8),
     Goes(Move),

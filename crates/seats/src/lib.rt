@@ -1,4 +1,6 @@
 // Where a site is between its turns, kept in its area behind the levels.
+#![tactic(auto)]
+
 ghost use Rattle.std.specs.Prelude.{◌≡◌, ◌≤◌, length};
 ghost use Rattle.area.specs.Rows.{row_size};
 ghost use Rattle.seats.specs.Seats.{seat_at, Saves};
@@ -6,7 +8,7 @@ ghost use Rattle.seats.specs.Seats.{seat_at, Saves};
 use area::stand::Stand;
 use limits::{Depth, MadeDepth};
 
-#[derive(Drop)]
+#[derive(Clone, Copy)]
 pub enum Seat {
     Running(Stand),
     Finished,

@@ -15,7 +15,7 @@ use program::check::Verdict;
 use records::events::Event;
 use single_step::Stepped;
 
-#[derive(Drop)]
+#[derive(Clone, Copy)]
 pub enum Answer {
     // the refusal, and its place
     Refused(u8, usize),
@@ -42,7 +42,7 @@ fn run_on(
     work: &mut [u8],
 ) -> Answer
     requires { (n ≤ max_parties) × (n * room ≤ length bytes.old) × (n ≤ length lengths.old) × (start.depth.frames ≤ max_frames) × (length work.old ≡ row_size) × (max_parties ≤ length at.old) × (max_parties ≤ length end.now) × (nodes ≤ 1024) }
-    ensures { RunsOn program.now nodes room n inputs.now end.now budget start result (record { bytes = bytes.entry.now; lengths = lengths.old; work = work.old; at = at.old }) bytes.exit.now lengths.new }
+    ensures { RunsOn program.now nodes room n inputs.now end.now budget start result (record { bytes = bytes.now; lengths = lengths.old; work = work.old; at = at.old }) bytes.exit.now lengths.new }
 {
     let mut t = start;
     let mut k: u32 = 0;
@@ -124,7 +124,7 @@ fn run_good(
     work: &mut [u8],
 ) -> Answer
     requires { check_answer program.now ≡ accepted n nodes }
-    ensures { Is (single_call (record { program = program.entry.now; counts = counts.now; inputs = inputs.now; records = bytes.old; lengths = lengths.old; work = work.old }) budget) result bytes.new lengths.new work.new }
+    ensures { Is (single_call (record { program = program.now; counts = counts.now; inputs = inputs.now; records = bytes.old; lengths = lengths.old; work = work.old }) budget) result bytes.new lengths.new work.new }
 {
     if counts_fit(counts, n, inputs.len()) {
         let parties = n as usize;
@@ -166,7 +166,7 @@ pub fn run(
     lengths: &mut [usize],
     work: &mut [u8],
 ) -> Answer
-    ensures { Is (single_call (record { program = program.entry.now; counts = counts.now; inputs = inputs.now; records = bytes.old; lengths = lengths.old; work = work.old }) budget) result bytes.new lengths.new work.new }
+    ensures { Is (single_call (record { program = program.now; counts = counts.now; inputs = inputs.now; records = bytes.old; lengths = lengths.old; work = work.old }) budget) result bytes.new lengths.new work.new }
 {
     match program::check::check(program) {
         Verdict::Bad(place) => Answer::Refused(refusals::BAD_PROGRAM, place),

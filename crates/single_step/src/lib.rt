@@ -1,4 +1,6 @@
 // One step of the single run.
+#![tactic(auto)]
+
 ghost use Rattle.std.specs.Prelude.{◌≡◌, ◌*◌, ◌≤◌, length};
 ghost use Rattle.limits.specs.Limits.{max_parties, max_frames};
 ghost use Rattle.parties.specs.Sets.{count};
@@ -16,7 +18,7 @@ use records::events::Event;
 use rules::effects::{Effect, Move, Offer, View};
 use values::value::Value;
 
-#[derive(Drop)]
+#[derive(Clone, Copy)]
 pub enum Stepped {
     On(Stand),
     Ended,
@@ -25,7 +27,7 @@ pub enum Stepped {
 }
 
 // What an effect comes to.
-#[derive(Drop)]
+#[derive(Clone, Copy)]
 enum Entry {
     // the refusal
     Stops(u8),
@@ -140,7 +142,7 @@ fn effect_of(advanced: Advanced, program: &[u8], nodes: usize, t: Stand, w: &[u8
 }
 
 // Some moves, the node that they led to, and what the step from there came to.
-#[derive(Drop)]
+#[derive(Clone, Copy)]
 pub struct Stride {
     pub moves: u32,
     pub node: u16,
@@ -163,7 +165,7 @@ pub fn step(
     work: &mut [u8],
 ) -> Stride
     requires { (1 ≤ most) × (n ≤ max_parties) × (n * room ≤ length bytes.old) × (n ≤ length lengths.old) × (t.depth.frames ≤ max_frames) × (length work.old ≡ row_size) × (max_parties ≤ length at.old) × (max_parties ≤ length end.now) × (nodes ≤ 1024) }
-    ensures { Strides program.now nodes room n inputs.now end.now most t result (record { bytes = bytes.entry.now; lengths = lengths.old; work = work.old; at = at.old }) (record { bytes = bytes.exit.now; lengths = lengths.new; work = work.new; at = at.new }) }
+    ensures { Strides program.now nodes room n inputs.now end.now most t result (record { bytes = bytes.now; lengths = lengths.old; work = work.old; at = at.old }) (record { bytes = bytes.exit.now; lengths = lengths.new; work = work.new; at = at.new }) }
 {
     let gone = far(program, nodes, t, most, work);
     let moves = gone.moves;

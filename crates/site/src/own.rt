@@ -14,7 +14,7 @@ use lookup::Sought;
 use nodes::JointNode;
 use rules::effects::{Effect, Meeting, Offer, View};
 
-#[derive(Drop)]
+#[derive(Clone, Copy)]
 pub enum Own {
     Acts(Effect),
     // it passes its own checks at a joint node
@@ -51,7 +51,7 @@ pub fn own_at(node: JointNode, p: Party, t: Stand, room: usize, used: usize, are
 }
 
 // The meeting that a site attends.
-#[derive(Drop)]
+#[derive(Clone, Copy)]
 pub enum Invitation {
     Not,
     To(Meeting, Offer),

@@ -1,4 +1,6 @@
 // What is left to do of a turn that the loop over moves was left at: the site finishes, stops, meets others or acts, or nothing changes.
+#![tactic(auto)]
+
 ghost use Rattle.std.specs.Prelude.{◌+◌, ◌*◌, ◌≤◌, ◌<◌, length};
 ghost use Rattle.limits.specs.Limits.{max_parties, max_frames};
 ghost use Rattle.area.specs.Rows.{row_size};

@@ -1,4 +1,6 @@
 // Stretches of lent bytes: all of them zeroed, some of them copied to another place.
+#![tactic(auto)]
+
 ghost use Rattle.std.specs.Prelude.{◌≡◌, ◌+◌, ◌≤◌, length, replicate};
 ghost use Rattle.stretches.specs.Stretches.{copied, Apart};
 

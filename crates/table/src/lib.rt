@@ -1,4 +1,6 @@
 // The table of places at the head of an area, and the node that it leads to.
+#![tactic(auto)]
+
 ghost use Rattle.std.specs.Prelude.{◌≡◌, ◌≤◌, length};
 ghost use Rattle.area.specs.Rows.{row_size};
 ghost use Rattle.nodes.specs.Nodes.{joint_node};

@@ -39,7 +39,7 @@ pub extern "C" fn threadmolar_single(
     work: &mut [u8],
     steps: &mut u32,
 ) -> u32
-    ensures { SingleRuns (single_call (record { program = program.entry.now; counts = counts.now; inputs = inputs.now; records = records.old; lengths = lengths.old; work = work.old }) budget) result records.new lengths.new work.new steps.old steps.new }
+    ensures { SingleRuns (single_call (record { program = program.now; counts = counts.now; inputs = inputs.now; records = records.old; lengths = lengths.old; work = work.old }) budget) result records.new lengths.new work.new steps.old steps.new }
 {
     let answer = single::runs::run(program, counts, inputs, budget, records, lengths, work);
     tell_single(answer, steps)
@@ -74,7 +74,7 @@ pub extern "C" fn threadmolar_joint(
     work: &mut [u8],
     taken: &mut u32,
 ) -> u32
-    ensures { JointRuns (joint_call (record { program = program.entry.now; counts = counts.now; inputs = inputs.now; records = records.old; lengths = lengths.old; work = work.old }) turns.now) result records.new lengths.new work.new taken.old taken.new }
+    ensures { JointRuns (joint_call (record { program = program.now; counts = counts.now; inputs = inputs.now; records = records.old; lengths = lengths.old; work = work.old }) turns.now) result records.new lengths.new work.new taken.old taken.new }
 {
     let answer = joint::runs::run(program, counts, inputs, turns, records, lengths, work);
     tell_joint(answer, taken)

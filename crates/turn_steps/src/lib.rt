@@ -1,4 +1,6 @@
 // What a turn comes to: a meeting of all members, or what a site does by itself.
+#![tactic(auto)]
+
 ghost use Rattle.std.specs.Prelude.{◌≡◌, cond, ◌*◌, ◌+◌, ◌≤◌, ◌<◌, length};
 ghost use Rattle.limits.specs.Limits.{max_parties, max_frames};
 ghost use Rattle.area.specs.Rows.{row_size};

@@ -5,7 +5,7 @@ ghost use Rattle.values.specs.Values.{place, moved, restrict, slice, held, had_b
 use limits::Party;
 use parties::sets::PartySet;
 
-#[derive(Drop)]
+#[derive(Clone, Copy)]
 pub enum Value {
     Nothing,
     // an integer, and the set that it is at
@@ -15,7 +15,7 @@ pub enum Value {
 }
 
 // What a rule that wants a value at exactly m sees of it.
-#[derive(Drop)]
+#[derive(Clone, Copy)]
 pub enum Held {
     // whether it is secret, and the integer
     Number(bool, i32),

@@ -1,5 +1,7 @@
 // Runs a file of cases from standard input: each is its length (4), then a head that says what is lent (13), then what `rehearse` reads.
 // For case I it prints a line `case I` and what `rehearse` prints under that lending. A case that is cut, has no whole head or is too long is bad input.
+#![tactic(auto)]
+
 ghost use Rattle.std.specs.Prelude.{◌≤◌};
 ghost use Rattle.io.specs.Counts.{IsPrefixLen};
 ghost use Rattle.vectors.specs.Spaces.{Spaces};

@@ -1,4 +1,6 @@
 // A record is walked event by event, by a cursor that goes by value, with the record's bytes passed.
+#![tactic(auto)]
+
 ghost use Rattle.std.specs.Prelude.{◌≡◌, ◌+◌, ◌≤◌, length, drop};
 ghost use Rattle.walk.specs.Walk.{body_width, width_of, event_from, told, step_answer};
 
@@ -6,7 +8,7 @@ use limits::Party;
 use records::events::Event;
 
 // What the kind byte fixes.
-#[derive(Drop)]
+#[derive(Clone, Copy)]
 pub enum Width {
     // the body's length
     Known(usize),
@@ -28,12 +30,12 @@ pub fn width_of(kind: u8) -> Width
 }
 
 // A place of a record.
-#[derive(Drop)]
+#[derive(Clone, Copy)]
 pub struct Cursor {
     pub at: usize,
 }
 
-#[derive(Drop)]
+#[derive(Clone, Copy)]
 pub enum Step {
     // an event, and what follows
     Event(Event, Cursor),

@@ -1,4 +1,6 @@
 // Reads cases of two records from standard input and prints the lines of each.
+#![tactic(auto)]
+
 ghost use Rattle.std.specs.Prelude.{◌≡◌, ◌≤◌, length};
 ghost use Rattle.walks.specs.Room.{max_record, room_out, Fits};
 
@@ -12,7 +14,7 @@ fn lines_buffer() -> [u8; 1048576]
 }
 
 // What is left of the input begins with a record of so many bytes, or is cut before its end.
-#[derive(Drop)]
+#[derive(Clone, Copy)]
 enum Got {
     Record(usize),
     Cut,

@@ -1,4 +1,6 @@
 // Two's complement, and numbers of two, four and eight bytes, low byte first, at a place of lent bytes.
+#![tactic(auto)]
+
 ghost use Rattle.std.specs.Prelude.{◌≡◌, ◌+◌, ◌≤◌, ◌<◌, length};
 ghost use Rattle.std.proofs.lemmas.List.Edits.{sets};
 ghost use Rattle.numbers.specs.Integers.{residue, signed};
