@@ -1,0 +1,11 @@
+-- `area::levels::bind` meets its contract. Assumes nothing.
+use native.Mathlib.Omega.{arith}
+use Rattle.area.proofs.MoveLaws.{bound_not, bound}
+use Rattle.area.proofs.levels.bind.Goals as goal
+
+pub returns-then-x-ge-MAX : goal.returns-then-x-ge-MAX
+returns-then-x-ge-MAX c = let a = c.args in bound_not a.x a.v a.d.frames a.w.now c.if-x-ge-MAX.true
+
+pub returns : goal.returns
+returns c = let a = c.args in
+    bound a.x a.v a.d.frames a.w.now c.level_at-at.result _ c.requires.0 c.requires.1 (omega arith) c.store.ensures.1 c.level_at-at.ensures c.store.ensures.0

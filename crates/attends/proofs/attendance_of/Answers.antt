@@ -1,0 +1,18 @@
+-- `attends::attendance_of` meets its contract. Assumes nothing.
+use mathlib.Core.Path.{sym, ◌∙◌, subst}
+use Rattle.seats.specs.Seats.{DeepSeat}
+use Rattle.seats.proofs.SeatLaws.{seat_deep}
+use Rattle.attends.proofs.AttendLaws.{at_running, at_finished, at_stopped}
+use Rattle.attends.proofs.attendance_of.Goals as goal
+
+pub attends_from-requires : goal.attends_from-requires
+attends_from-requires c = let a = c.args in (subst DeepSeat (sym c.load_seat.ensures ∙ c.in-Running.is) (seat_deep a.area.now), c.requires)
+
+pub returns-in-Running : goal.returns-in-Running
+returns-in-Running c = let a = c.args in at_running a.node a.e a.m a.p a.room a.used a.area.now c.load_seat.result c.load_seat.ensures _ _ c.in-Running.is c.attends_from.ensures
+
+pub returns-in-Finished : goal.returns-in-Finished
+returns-in-Finished c = let a = c.args in at_finished a.node a.e a.m a.p a.room a.used a.area.now c.load_seat.result c.load_seat.ensures c.in-Finished.is
+
+pub returns-in-Stopped : goal.returns-in-Stopped
+returns-in-Stopped c = let a = c.args in at_stopped a.node a.e a.m a.p a.room a.used a.area.now c.load_seat.result c.load_seat.ensures c.in-Stopped.is

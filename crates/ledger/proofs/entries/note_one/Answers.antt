@@ -1,0 +1,23 @@
+-- `ledger::entries::note_one` meets its contract. Assumes nothing.
+use mathlib.Core.Path.{sym, ap}
+use Prim.Native.Nat.{◌+◌, ◌≤◌}
+use native.Mathlib.Omega.{arith}
+use lib.ListN.{length, get_or}
+use Rattle.records.specs.Events.{event_bytes}
+use Rattle.ledger.proofs.WriteLaws.{area_length, wrote}
+use Rattle.ledger.proofs.entries.note_one.Goals as goal
+
+-- the room that it has
+fits : (c : tie.After-chosen) → get_or c.before.before.before.before.args.lengths.now c.before.before.before.before.args.p 0 + length (event_bytes c.chosen.result) ≤ c.before.before.before.before.args.room
+fits c = rw c.chosen.ensures c.before.before.before.before.requires.2
+
+pub store-requires : goal.store-requires
+store-requires c = rw (area_length _ _ _ c.requires.0) (fits c.before)
+
+pub overflow_add-lengths : goal.overflow_add-lengths
+overflow_add-lengths c = omega (arith, c.size.ensures, fits c.before.before.before.before.before)
+
+pub returns : goal.returns
+returns c =
+    let a = c.args in
+    wrote a.room a.p a.bytes.now a.lengths.now c.store.new.1.0 c.requires.0 _ (event_bytes c.chosen-ev.result) _ (sym (ap event_bytes c.chosen-ev.ensures)) c.store.ensures (fits c.before.before.before.before.before) (omega (arith, c.size.ensures))

@@ -1,0 +1,27 @@
+-- `lookup::joint_effect` meets its contract. Assumes nothing.
+use mathlib.Core.Path.{refl, sym, ◌∙◌}
+use Rattle.rules.specs.Names.{names_of}
+use Rattle.rules.specs.Rules.{judge}
+use Rattle.area.specs.Levels.{names_at}
+use Rattle.lookup.proofs.JointLaws.{one_bound, one_unbound}
+use Rattle.lookup.proofs.joint_effect.Goals as goal
+
+pub returns-in_default : goal.returns-in_default
+unfolding names_of
+returns-in_default c = let a = c.args in
+    rw c.in-SHARE.is (one_unbound a.view _ a.t.mode (names_at a.w.now a.t.depth.frames) _ refl _ (sym c.in_default.is ∙ c.seek.ensures))
+
+pub returns-in_default-seek : goal.returns-in_default-seek
+unfolding names_of
+returns-in_default-seek c = let a = c.args in
+    rw c.in-REVEAL.is (one_unbound a.view _ a.t.mode (names_at a.w.now a.t.depth.frames) _ refl _ (sym c.in_default-seek.is ∙ c.seek-in-REVEAL.ensures))
+
+pub returns-in-Found : goal.returns-in-Found
+unfolding names_of judge
+returns-in-Found c = let a = c.args in
+    rw c.in-SHARE.is (c.share.ensures ∙ one_bound a.view _ a.t.mode (names_at a.w.now a.t.depth.frames) _ refl _ (sym c.in-Found.is ∙ c.seek.ensures))
+
+pub returns-in-Found-seek : goal.returns-in-Found-seek
+unfolding names_of judge
+returns-in-Found-seek c = let a = c.args in
+    rw c.in-REVEAL.is (c.reveal.ensures ∙ one_bound a.view _ a.t.mode (names_at a.w.now a.t.depth.frames) _ refl _ (sym c.in-Found-seek.is ∙ c.seek-in-REVEAL.ensures))

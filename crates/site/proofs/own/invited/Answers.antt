@@ -1,0 +1,14 @@
+-- `site::own::invited` meets its contract. Assumes nothing.
+use Rattle.site.proofs.OwnLaws.{invites_not, invites_to, invites_lacks}
+use Rattle.site.proofs.own.invited.Goals as goal
+
+pub returns-in_default : goal.returns-in_default
+returns-in_default c = let a = c.args in invites_not a.p a.t a.room a.used a.area.now a.node c.meeting.result c.meeting.ensures c.in_default.is
+
+pub returns-then-room_for : goal.returns-then-room_for
+returns-then-room_for c = let a = c.args in
+    invites_to a.p a.t a.room a.used a.area.now a.node c.meeting.result c.meeting.ensures _ _ c.in-To.is c.room_for.result c.room_for.ensures c.if-room_for.true
+
+pub returns : goal.returns
+returns c = let a = c.args in
+    invites_lacks a.p a.t a.room a.used a.area.now a.node c.meeting.result c.meeting.ensures _ _ c.in-To.is c.room_for.result c.room_for.ensures c.if-room_for.false

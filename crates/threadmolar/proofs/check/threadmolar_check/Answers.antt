@@ -1,0 +1,18 @@
+-- `threadmolar::check::threadmolar_check` meets its contract. Assumes nothing.
+use mathlib.Core.Path.{refl, sym, ap, ◌∙◌}
+use native.Mathlib.Omega.{arith}
+use Rattle.program.specs.Answer.{told}
+use Rattle.threadmolar.specs.Checks.{check_number, parties_left, nodes_left}
+use Rattle.threadmolar.proofs.AnswerLaws.{check_fits}
+use Rattle.threadmolar.proofs.check.threadmolar_check.Goals as goal
+
+pub overflow_cast-place : goal.overflow_cast-place
+overflow_cast-place c = omega (arith, check_fits _ _ _ (ap told (sym c.in-Bad.is) ∙ c.check.ensures))
+
+pub returns-in-Bad : goal.returns-in-Bad
+unfolding check_number parties_left nodes_left
+returns-in-Bad c = rw (← c.check.ensures, c.in-Bad.is) (record { number = c.numbered.ensures; parties = refl; nodes = refl })
+
+pub returns-in-Good : goal.returns-in-Good
+unfolding check_number parties_left nodes_left
+returns-in-Good c = rw (← c.check.ensures, c.in-Good.is) (record { number = refl; parties = refl; nodes = refl })

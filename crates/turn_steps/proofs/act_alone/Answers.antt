@@ -1,0 +1,59 @@
+-- `turn_steps::act_alone` meets its contract. Assumes nothing.
+use mathlib.Core.Path.{refl, sym, ap, ◌∙◌}
+use Prim.Native.Nat.{◌-◌}
+use native.Mathlib.Omega.{arith}
+use lib.ListN.{get_or}
+use Rattle.area.specs.Rows.{row_size}
+use Rattle.turn_steps.specs.Steps.{once}
+use Rattle.area.proofs.RowLaws.{row_length}
+use Rattle.turn_steps.proofs.AloneLaws.{taken_inside, alone_by, alone_none}
+use borrow.Author.Rules.{rules}
+use Rattle.turn_steps.proofs.act_alone.Goals as goal
+
+pub next_input-input-requires : goal.next_input-input-requires
+next_input-input-requires c = (c.requires.4, c.requires.5)
+
+pub act-requires : goal.act-requires
+act-requires c = let p = c.requires in (p.0, search rules, p.6)
+
+pub offset_bounds-lengths-i-2 : goal.offset_bounds-lengths-i-2
+offset_bounds-lengths-i-2 c = mul-used c.before.before.before.before.before.before.before.before
+
+pub bounds-lengths-i-2 : goal.bounds-lengths-i-2
+bounds-lengths-i-2 c = slice-read-used c.before.before.before.before.before.before.before
+
+pub takes_input-requires : goal.takes_input-requires
+takes_input-requires c = tt
+
+pub offset_bounds-at-i : goal.offset_bounds-at-i
+offset_bounds-at-i c = mul-used c.before.before.before.before.before.before.before.before.before.before
+
+pub bounds-at-i : goal.bounds-at-i
+bounds-at-i c = c.requires.4
+
+pub overflow_add-at : goal.overflow_add-at
+overflow_add-at c = let a = c.args in
+    omega (
+      arith,
+      taken_inside a.inputs.now (get_or a.at.now a.p 0) (get_or a.end.now a.p 0 - get_or a.at.now a.p 0) a.effect c.next_input-input.result 1
+          c.next_input-input.ensures (sym (ap once c.if-takes_input.true) ∙ c.takes_input.ensures) (omega arith),
+      c.before.before.before.before.before.before.before.before.before.before.before.before.before.before.before.before.before.before.well-formed,
+    )
+
+pub offset_bounds-at-i-then-takes_input : goal.offset_bounds-at-i-then-takes_input
+offset_bounds-at-i-then-takes_input c = mul-used c.before.before.before.before.before.before.before.before.before.before.before
+
+pub bounds-at-i-then-takes_input : goal.bounds-at-i-then-takes_input
+bounds-at-i-then-takes_input c = c.requires.4
+
+pub returns-then-takes_input : goal.returns-then-takes_input
+returns-then-takes_input c = let a = c.args in
+    alone_by a.effect a.t a.p a.room a.inputs.now a.end.now a.at.now a.bytes.now a.lengths.now a.work.now c.next_input-input.result 1 c.act.result _ _
+    c.requires.4 c.requires.3 (c.act.auto.1.1.1.1.1.1.0 ∙ row_length row_size a.p a.work.now c.requires.3) c.next_input-input.ensures
+    (sym (ap once c.if-takes_input.true) ∙ c.takes_input.ensures) c.act.ensures
+
+pub returns-else-takes_input : goal.returns-else-takes_input
+returns-else-takes_input c = let a = c.args in
+    alone_none a.effect a.t a.p a.room a.inputs.now a.end.now a.at.now a.bytes.now a.lengths.now a.work.now c.next_input-input.result 0 c.act.result _ _
+    c.requires.4 c.requires.3 (c.act.auto.1.1.1.1.1.1.0 ∙ row_length row_size a.p a.work.now c.requires.3) c.next_input-input.ensures
+    (sym (ap once c.if-takes_input.false) ∙ c.takes_input.ensures) c.act.ensures refl

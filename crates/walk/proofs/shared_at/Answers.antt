@@ -1,0 +1,10 @@
+-- `walk::shared_at` meets its contract. Assumes nothing.
+use native.Mathlib.Nat.{add-zero}
+use lib.Seq.{get_or-drop}
+use Rattle.walk.specs.Walk.{event_from}
+use Rattle.walk.proofs.StepLaws.{number_dropped}
+use Rattle.walk.proofs.shared_at.Goals as goal
+
+pub returns : goal.returns
+unfolding event_from
+returns c = rw c.Load-set.ensures (simp (get_or-drop, number_dropped, add-zero))
