@@ -27,7 +27,7 @@ use Rattle.rules.specs.declared.effects.Effect.TheVariants.{Refuse, Goes, Reads,
 use Rattle.invariants.specs.Changes.{on_names, on_frame}
 use Rattle.invariants.specs.Sites.{events_of}
 use Rattle.invariants.proofs.NameLaws.{bind_on, none_on}
-use Rattle.demands.proofs.Hidden.{hide, hide_move, hide_effect, rule_hide}
+use Rattle.demands.proofs.HiddenLaws.{hide, hide_move, hide_effect, rule_hide}
 
 abbrev pub hide_control : Control → Control
 hide_control c = record { node = c.node; mode = c.mode; names = on_names hide c.names; frames = map (on_frame hide) c.frames }

@@ -69,7 +69,7 @@ joint_runs : (n : ℕ) (L : Lent) (t : Turned) → IsJointRun (joint_left n L t)
 unfolding joint_left left_by
 joint_runs n L t = go (all_finished n t.sites)
   where
-    go : (all : Bool) → IsJointRun (cond all (JointAnswer.complete t.count) (JointAnswer.stillOpen t.count))
+    go : (all : Bool) → IsJointRun (cond all (JointAnswer.complete t.count) (JointAnswer.still_open t.count))
     go true = tt
     go false = tt
 

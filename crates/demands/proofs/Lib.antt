@@ -20,7 +20,7 @@ pub mod TurnCount
 pub mod StepCount
 pub mod FinishedLaws
 pub mod FinishedRecords
-pub mod Hidden
+pub mod HiddenLaws
 pub mod Alike
 pub mod OpenedLaws
 pub mod Trail

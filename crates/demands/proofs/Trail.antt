@@ -29,7 +29,7 @@ use Rattle.invariants.proofs.BeginsLaws.{begins_refl, begins_trans, get_d_begins
 use Rattle.invariants.proofs.Grows.{own_adds, perform_adds, settle_adds, land_adds}
 use Rattle.demands.specs.Opened.{openings}
 use Rattle.demands.proofs.OpenedLaws.{openings_append, openings_begin}
-use Rattle.demands.proofs.Hidden.{hide, hide_cond}
+use Rattle.demands.proofs.HiddenLaws.{hide, hide_cond}
 use Rattle.demands.proofs.Alike.{hide_control, hide_site, hide_events, hidden_own, settle_hide}
 
 -- a member's part in a meeting about the number i, as far as it is not hidden
