@@ -20,4 +20,4 @@ take_part-requires c = let a = c.args in
 pub returns : goal.returns
 returns c = let a = c.args in
     member_runs a.outcome a.p a.room a.bytes.now a.lengths.now a.work.now c.load_seat.result c.load_seat.ensures _ c.in-Running.is c.take_part.result _ _
-    (c.take_part.auto.1.1.1.1.1.0 ∙ row_length row_size a.p a.work.now c.requires.2) c.requires.2 c.take_part.ensures
+    (c.take_part.auto.area ∙ row_length row_size a.p a.work.now c.requires.2) c.requires.2 c.take_part.ensures

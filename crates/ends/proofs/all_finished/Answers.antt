@@ -1,4 +1,6 @@
 -- `ends::all_finished` meets its contract. Assumes nothing.
+use mathlib.Core.Bool.{not}
+use mathlib.Core.Path.{ap}
 use mathlib.Core.Path.{◌≡◌}
 use Prim.Native.Nat.{◌-◌}
 use native.Mathlib.Omega.{arith}
@@ -11,12 +13,12 @@ loop-p-init c = let a = c.args in
 
 pub returns-then-not-is_finished : goal.returns-then-not-is_finished
 returns-then-not-is_finished c = let a = c.args in
-    finish_not a.n a.work.now c.loop-p.p (omega arith) c.is_finished.result c.is_finished.ensures c.if-not-is_finished.true
+    finish_not a.n a.work.now c.loop-p.p (omega arith) c.is_finished.result c.is_finished.ensures (ap not c.if-not-is_finished.true)
 
 pub loop-p-preserved : goal.loop-p-preserved
 loop-p-preserved c = let a = c.args in
     let l = c.loop-p in
-    (omega arith, finish_more a.n a.work.now l.p (omega arith) c.is_finished.result c.is_finished.ensures l.invariant.1 c.if-not-is_finished.false)
+    (omega arith, finish_more a.n a.work.now l.p (omega arith) c.is_finished.result c.is_finished.ensures l.invariant.1 (ap not c.if-not-is_finished.false))
 
 pub returns : goal.returns
 returns c = let a = c.args in

@@ -5,4 +5,4 @@ use Rattle.ends.proofs.open_one.Goals as goal
 
 pub returns : goal.returns
 returns c = let a = c.args in
-    opens a.program.now a.nodes a.start c.prepare.new.1.1.0 c.save_seat.new.1.0 (omega arith) c.prepare.ensures c.save_seat.ensures
+    opens a.program.now a.nodes a.start c.prepare.new.w c.save_seat.new.w (omega arith) c.prepare.ensures c.save_seat.ensures

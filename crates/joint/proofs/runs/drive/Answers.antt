@@ -7,11 +7,11 @@ use Rattle.joint.proofs.runs.drive.Goals as goal
 
 pub run_turns-count-requires : goal.run_turns-count-requires
 run_turns-count-requires c = let p = c.requires in
-    (few_turns _ _ p.8, turns_below _ _ p.8, p.0, p.3, omega (arith, p.4, c.clear_lengths.auto.1.0), omega (arith, p.5, c.open_all.auto.1.1.1.1.0), search rules, search rules, p.2)
+    (few_turns _ _ p.8, turns_below _ _ p.8, p.0, p.3, omega (arith, p.4, c.clear_lengths.auto.lengths), omega (arith, p.5, c.open_all.auto.work), search rules, search rules, p.2)
 
 pub all_finished-requires : goal.all_finished-requires
 all_finished-requires c = let p = c.requires in
-    (p.0, omega (arith, p.5, c.open_all.auto.1.1.1.1.0, c.run_turns-count.auto.1.1.1.1.1.1.1.1.1.1.0))
+    (p.0, omega (arith, p.5, c.open_all.auto.work, c.run_turns-count.auto.work))
 
 pub returns-then-all_finished : goal.returns-then-all_finished
 returns-then-all_finished c = let a = c.args in

@@ -1,4 +1,5 @@
 -- `joint::runs::run_good` meets its contract. Assumes nothing.
+use mathlib.Core.Bool.{not}
 use mathlib.Core.Path.{sym, ap, ◌∙◌}
 use borrow.Author.Tests.{not-true, not-false}
 use Rattle.rules.specs.Lent.{Lent}
@@ -14,14 +15,14 @@ pub returns-then-not-counts_fit : goal.returns-then-not-counts_fit
 unfolding joint_call joint_of
 returns-then-not-counts_fit c = let a = c.args in
     let L : Lent = lent a.program.now a.counts.now a.inputs.now a.bytes.now a.lengths.now a.work.now in
-    call_counts (joint_of L a.turns.now) L a.n a.nodes c.requires (sym (counts_fit_is a.n L) ∙ sym c.counts_fit.ensures ∙ not-true _ c.if-not-counts_fit.true)
+    call_counts (joint_of L a.turns.now) L a.n a.nodes c.requires (sym (counts_fit_is a.n L) ∙ sym c.counts_fit.ensures ∙ not-true _ (ap not c.if-not-counts_fit.true))
 
 pub run_lent-requires : goal.run_lent-requires
-run_lent-requires c = let f = fit_parts _ _ _ _ (sym c.counts_fit.ensures ∙ not-false _ c.if-not-counts_fit.false) in
+run_lent-requires c = let f = fit_parts _ _ _ _ (sym c.counts_fit.ensures ∙ not-false _ (ap not c.if-not-counts_fit.false)) in
     (c.requires, f.0, f.1, sym c.bad_turn.ensures ∙ ap (λ (x : BadTurn). found x) c.in-None.is)
 
 pub returns-in-At : goal.returns-in-At
 unfolding joint_call joint_of
 returns-in-At c = let a = c.args in
     let L : Lent = lent a.program.now a.counts.now a.inputs.now a.bytes.now a.lengths.now a.work.now in
-    call_turn (joint_of L a.turns.now) L a.n a.nodes c.requires _ (sym (counts_fit_is a.n L) ∙ sym c.counts_fit.ensures ∙ not-false _ c.if-not-counts_fit.false) (sym c.bad_turn.ensures ∙ ap (λ (x : BadTurn). found x) c.in-At.is)
+    call_turn (joint_of L a.turns.now) L a.n a.nodes c.requires _ (sym (counts_fit_is a.n L) ∙ sym c.counts_fit.ensures ∙ not-false _ (ap not c.if-not-counts_fit.false)) (sym c.bad_turn.ensures ∙ ap (λ (x : BadTurn). found x) c.in-At.is)

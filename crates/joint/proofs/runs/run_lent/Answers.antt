@@ -45,5 +45,5 @@ unfolding room_of
 returns c = let a = c.args in
     let p = c.requires in
     let L : Lent = lent a.program.now a.counts.now a.inputs.now a.bytes.now a.lengths.now a.work.now in
-    call_runs L a.n _ _ _ (c.zero.ensures ∙ ap (λ (i : ℕ). replicate i 0) c.drive-answer.auto.1.1.1.1.1.1.1.1.1.0) a.turns.now a.nodes _ p.0 (fit_whole a.n L p.1 p.2) p.3
+    call_runs L a.n _ _ _ (c.zero.ensures ∙ ap (λ (i : ℕ). replicate i 0) c.drive-answer.auto.work) a.turns.now a.nodes _ p.0 (fit_whole a.n L p.1 p.2) p.3
     (enough a.n a.n L c.if-room-lt-MAX.false c.if-lengths-parties.false c.if-work-parties.false) c.if-room-lt-MAX.false c.drive-answer.ensures

@@ -30,7 +30,7 @@ returns-then-not-member_agrees c =
     let inside : (member c.lowest-p.result c.args.m ≡ true) = let h = here in below_in _ c.args.m c.args.n members c.lowest-p.result h.below ∙ h.inside in
     let a = c.args in
     rw (read32 a.number c.ranges.number) at
-    (agree_not a.node a.e a.m a.n a.room a.lengths.now a.work.now (to_z w32 (of_z w32 a.number)) a.holders c.lowest-p.result here.below inside c.member_agrees.result c.member_agrees.ensures c.if-not-member_agrees.true)
+    (agree_not a.node a.e a.m a.n a.room a.lengths.now a.work.now (to_z w32 (of_z w32 a.number)) a.holders c.lowest-p.result here.below inside c.member_agrees.result c.member_agrees.ensures (ap not c.if-not-member_agrees.true))
 
 pub loop-node-smaller : goal.loop-node-smaller
 loop-node-smaller c =
@@ -46,7 +46,7 @@ loop-node-preserved c =
     let a = c.args in
     let h = here in
     left_next _ _ h c.rest-left.ensures (agree_passes a.node a.e a.m a.n a.room a.lengths.now a.work.now (to_z w32 (of_z w32 a.number)) a.holders _ members)
-    (agree_more a.node a.e a.m a.n a.room a.lengths.now a.work.now (to_z w32 (of_z w32 a.number)) a.holders c.lowest-p.result h.below inside c.member_agrees.result c.member_agrees.ensures c.if-not-member_agrees.false h.so_far)
+    (agree_more a.node a.e a.m a.n a.room a.lengths.now a.work.now (to_z w32 (of_z w32 a.number)) a.holders c.lowest-p.result h.below inside c.member_agrees.result c.member_agrees.ensures (ap not c.if-not-member_agrees.false) h.so_far)
 
 pub returns : goal.returns
 returns c = let a = c.args in

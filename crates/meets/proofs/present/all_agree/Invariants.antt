@@ -1,12 +1,10 @@
 -- `meets::present::all_agree`: what its loop keeps.
 use Rattle.parties.proofs.LoopLaws.{LeftAt}
-use mir.Syntax.{w32}
-use mir.Val.{to_z}
 use Rattle.meets.proofs.MeetLaws.{Agreeing}
 use Rattle.meets.proofs.present.all_agree.Given as goal
 
 abbrev pub invariant-loop-node : goal.invariant-loop-node
-invariant-loop-node l = LeftAt l.initial.left l.n (Agreeing l.node l.e l.m l.n l.room l.lengths l.work (to_z w32 l.number) l.holders) l.left
+invariant-loop-node l = LeftAt l.initial.left l.n (Agreeing l.node l.e l.m l.n l.room l.lengths l.work l.number l.holders) l.left
 
 abbrev pub decreases-loop-node : goal.decreases-loop-node
 decreases-loop-node l = l.left.bits

@@ -5,10 +5,8 @@ use Prim.Native.Nat.{ℕ, ◌-◌}
 use native.Mathlib.Omega.{arith}
 use Rattle.single_step.specs.Steps.{Lists}
 use Rattle.single.proofs.RunLaws.{going_start, stride_on, stride_end, stride_stop, goes_out}
+use Rattle.single.proofs.runs.run_on.Invariants.{lists}
 use Rattle.single.proofs.runs.run_on.Goals as goal
-
-abbrev lists : List ℕ → List ℕ → List ℕ → List ℕ → Lists
-lists at bytes lengths work = record { bytes = bytes; lengths = lengths; work = work; at = at }
 
 pub loop-k-init : goal.loop-k-init
 loop-k-init c = let a = c.args in
@@ -30,11 +28,11 @@ overflow_add-result c = omega (arith, c.step-stride.ensures.0, c.loop-k-test.tru
 
 pub returns-in-Ended : goal.returns-in-Ended
 returns-in-Ended c = let a = c.args in
-    stride_end a.program.now a.nodes a.room a.n a.inputs.now a.end.now a.budget a.start (lists a.at.now a.bytes.now a.lengths.now a.work.now) c.loop-k.t c.loop-k.k (lists c.loop-k.at c.loop-k.bytes c.loop-k.lengths c.loop-k.work) (lists c.step-stride.new.1.1.1.1.1.1.1.0 c.step-stride.new.1.1.1.1.1.1.1.1.1.0 c.step-stride.new.1.1.1.1.1.1.1.1.1.1.0 c.step-stride.new.1.1.1.1.1.1.1.1.1.1.1.0) c.step-stride.result c.loop-k.invariant.0 c.requires.7 c.loop-k-test.true c.step-stride.ensures c.in-Ended.is
+    stride_end a.program.now a.nodes a.room a.n a.inputs.now a.end.now a.budget a.start (lists a.at.now a.bytes.now a.lengths.now a.work.now) c.loop-k.t c.loop-k.k (lists c.loop-k.at c.loop-k.bytes c.loop-k.lengths c.loop-k.work) (lists c.step-stride.new.at c.step-stride.new.bytes c.step-stride.new.lengths c.step-stride.new.work) c.step-stride.result c.loop-k.invariant.0 c.requires.7 c.loop-k-test.true c.step-stride.ensures c.in-Ended.is
 
 pub returns-in-Stopped : goal.returns-in-Stopped
 returns-in-Stopped c = let a = c.args in
-    stride_stop a.program.now a.nodes a.room a.n a.inputs.now a.end.now a.budget a.start (lists a.at.now a.bytes.now a.lengths.now a.work.now) c.loop-k.t c.loop-k.k (lists c.loop-k.at c.loop-k.bytes c.loop-k.lengths c.loop-k.work) (lists c.step-stride.new.1.1.1.1.1.1.1.0 c.step-stride.new.1.1.1.1.1.1.1.1.1.0 c.step-stride.new.1.1.1.1.1.1.1.1.1.1.0 c.step-stride.new.1.1.1.1.1.1.1.1.1.1.1.0) c.step-stride.result c.loop-k.invariant.0 c.requires.7 c.loop-k-test.true c.step-stride.ensures _ c.in-Stopped.is
+    stride_stop a.program.now a.nodes a.room a.n a.inputs.now a.end.now a.budget a.start (lists a.at.now a.bytes.now a.lengths.now a.work.now) c.loop-k.t c.loop-k.k (lists c.loop-k.at c.loop-k.bytes c.loop-k.lengths c.loop-k.work) (lists c.step-stride.new.at c.step-stride.new.bytes c.step-stride.new.lengths c.step-stride.new.work) c.step-stride.result c.loop-k.invariant.0 c.requires.7 c.loop-k-test.true c.step-stride.ensures _ c.in-Stopped.is
 
 pub overflow_add-k-in-loop-k : goal.overflow_add-k-in-loop-k
 overflow_add-k-in-loop-k c = omega (arith, c.step-stride.ensures.0, c.loop-k-test.true, c.ranges.budget)
@@ -44,7 +42,7 @@ loop-k-smaller c = omega (arith, c.step-stride.ensures.0, c.loop-k-test.true)
 
 pub loop-k-preserved : goal.loop-k-preserved
 loop-k-preserved c = let a = c.args in
-    (stride_on a.program.now a.nodes a.room a.n a.inputs.now a.end.now a.budget a.start (lists a.at.now a.bytes.now a.lengths.now a.work.now) c.loop-k.t c.loop-k.k (lists c.loop-k.at c.loop-k.bytes c.loop-k.lengths c.loop-k.work) (lists c.step-stride.new.1.1.1.1.1.1.1.0 c.step-stride.new.1.1.1.1.1.1.1.1.1.0 c.step-stride.new.1.1.1.1.1.1.1.1.1.1.0 c.step-stride.new.1.1.1.1.1.1.1.1.1.1.1.0) c.step-stride.result c.loop-k.invariant.0 c.requires.7 c.loop-k-test.true c.step-stride.ensures _ c.in-On.is, c.step-stride.auto.1.1.1.1.1.1.1.0 ∙ c.loop-k.invariant.1, c.step-stride.auto.1.1.1.1.1.1.1.1.1.0 ∙ c.loop-k.invariant.2, c.step-stride.auto.1.1.1.1.1.1.1.1.1.1.0 ∙ c.loop-k.invariant.3, c.step-stride.auto.1.1.1.1.1.1.1.1.1.1.1.0 ∙ c.loop-k.invariant.4)
+    (stride_on a.program.now a.nodes a.room a.n a.inputs.now a.end.now a.budget a.start (lists a.at.now a.bytes.now a.lengths.now a.work.now) c.loop-k.t c.loop-k.k (lists c.loop-k.at c.loop-k.bytes c.loop-k.lengths c.loop-k.work) (lists c.step-stride.new.at c.step-stride.new.bytes c.step-stride.new.lengths c.step-stride.new.work) c.step-stride.result c.loop-k.invariant.0 c.requires.7 c.loop-k-test.true c.step-stride.ensures _ c.in-On.is, c.step-stride.auto.at ∙ c.loop-k.invariant.1, c.step-stride.auto.bytes ∙ c.loop-k.invariant.2, c.step-stride.auto.lengths ∙ c.loop-k.invariant.3, c.step-stride.auto.work ∙ c.loop-k.invariant.4)
 
 pub returns : goal.returns
 returns c = let a = c.args in

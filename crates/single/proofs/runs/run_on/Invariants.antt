@@ -1,9 +1,14 @@
 -- `single::runs::run_on`: what its loop keeps.
 use mathlib.Core.Path.{◌≡◌}
-use Prim.Native.Nat.{◌-◌}
+use mathlib.Core.List.{List}
+use Prim.Native.Nat.{ℕ, ◌-◌}
 use lib.ListN.{length}
+use Rattle.single_step.specs.Steps.{Lists}
 use Rattle.single.proofs.RunLaws.{Going}
 use Rattle.single.proofs.runs.run_on.Given as goal
+
+abbrev pub lists : List ℕ → List ℕ → List ℕ → List ℕ → Lists
+lists at bytes lengths work = record { bytes = bytes; lengths = lengths; work = work; at = at }
 
 abbrev pub invariant-loop-k : goal.invariant-loop-k
 invariant-loop-k l =
