@@ -41,9 +41,9 @@ loop-outcome-preserved c =
     let at_p = here in
     let l = c.loop-outcome in
     let one = c.conclude_one in (
-      one.auto.1.1.1.0 ∙ l.invariant.0,
-      one.auto.1.1.1.1.0 ∙ l.invariant.1,
-      one.auto.1.1.1.1.1.0 ∙ l.invariant.2,
+      one.auto.bytes ∙ l.invariant.0,
+      one.auto.lengths ∙ l.invariant.1,
+      one.auto.work ∙ l.invariant.2,
       left_next _ _ at_p c.rest-left.ensures (λ k h o g. going_out g o) (going_more at_p.so_far at_p.below at_p.inside one.ensures),
     )
 

@@ -20,7 +20,7 @@ loop-p-preserved c =
     let l = c.loop-p in
     let copy = c.copy_within in
     let long : l.p * row_size + row_size ≤ length l.work = omega arith in
-    (omega arith, copy.auto.0 ∙ l.invariant.1, rw copy.ensures (first_more a.work.now l.p l.work l.invariant.0 long l.invariant.2))
+    (omega arith, copy.auto.s ∙ l.invariant.1, rw copy.ensures (first_more a.work.now l.p l.work l.invariant.0 long l.invariant.2))
 
 pub returns : goal.returns
 returns c =

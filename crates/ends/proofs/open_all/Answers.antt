@@ -29,4 +29,4 @@ returns c =
     let a = c.args in
     let one = c.open_one in
     let copy = c.copy_first in
-    opens_all a.program.now a.nodes a.start a.n a.work.now one.new.1.1.1.0 copy.new.1.0 (one.auto.1.1.1.0 ∙ lent) (omega arith) one.ensures copy.ensures
+    opens_all a.program.now a.nodes a.start a.n a.work.now one.new.area copy.new.work (one.auto.area ∙ lent) (omega arith) one.ensures copy.ensures

@@ -12,7 +12,7 @@ returns c = let a = c.args in
       own = _;
       area = _;
       lands = l.ensures;
-      long = l.auto.1.1.1.1.0 ∙ row_length row_size a.p a.work.now c.requires.2;
+      long = l.auto.area ∙ row_length row_size a.p a.work.now c.requires.2;
       records = refl;
       counts = refl;
       areas = refl;

@@ -16,17 +16,8 @@ next_input-input-requires c = (c.requires.4, c.requires.5)
 pub act-requires : goal.act-requires
 act-requires c = let p = c.requires in (p.0, search rules, p.6)
 
-pub offset_bounds-lengths-i-2 : goal.offset_bounds-lengths-i-2
-offset_bounds-lengths-i-2 c = mul-used c.before.before.before.before.before.before.before.before
-
-pub bounds-lengths-i-2 : goal.bounds-lengths-i-2
-bounds-lengths-i-2 c = slice-read-used c.before.before.before.before.before.before.before
-
 pub takes_input-requires : goal.takes_input-requires
 takes_input-requires c = tt
-
-pub offset_bounds-at-i : goal.offset_bounds-at-i
-offset_bounds-at-i c = mul-used c.before.before.before.before.before.before.before.before.before.before
 
 pub bounds-at-i : goal.bounds-at-i
 bounds-at-i c = c.requires.4
@@ -37,11 +28,8 @@ overflow_add-at c = let a = c.args in
       arith,
       taken_inside a.inputs.now (get_or a.at.now a.p 0) (get_or a.end.now a.p 0 - get_or a.at.now a.p 0) a.effect c.next_input-input.result 1
           c.next_input-input.ensures (sym (ap once c.if-takes_input.true) ∙ c.takes_input.ensures) (omega arith),
-      c.before.before.before.before.before.before.before.before.before.before.before.before.before.before.before.before.before.before.well-formed,
+      c.well_formed,
     )
-
-pub offset_bounds-at-i-then-takes_input : goal.offset_bounds-at-i-then-takes_input
-offset_bounds-at-i-then-takes_input c = mul-used c.before.before.before.before.before.before.before.before.before.before.before
 
 pub bounds-at-i-then-takes_input : goal.bounds-at-i-then-takes_input
 bounds-at-i-then-takes_input c = c.requires.4
