@@ -73,8 +73,6 @@ class Names:
                                 arm = (entry[0], field, len(ofields))
             if arm:
                 return "c." + ".".join([arm[0], arm[1]] + rest[arm[2] :])
-            if re.search(r"-\d+$", new) and plain(old) not in plain(new).split("-1")[0]:
-                return None
             return "c." + ".".join([new] + [{"type-inv": "type_inv"}.get(r, r) for r in rest])
         return None
 
@@ -144,7 +142,7 @@ def turn(path, crate, names):
             body = paths(body, place, n)
             ans.append(b[: m.start()] + f"pub {goal} : goal.{goal}" + body)
             continue
-        ans.append(b)
+        ans.append(helper(b, of, n))
     old = os.path.join("/tmp/old-proofs", crate, os.path.relpath(path, f"crates/{crate}"))
     os.makedirs(os.path.dirname(old), exist_ok=True)
     shutil.move(path, old)
@@ -154,7 +152,21 @@ def turn(path, crate, names):
     if inv:
         write(os.path.join(folder, "Invariants.antt"), title + ": what its loop keeps.\n", keep, f"use {home}.Given as goal", inv)
     if ans or holes:
-        write(os.path.join(folder, "Answers.antt"), title + " meets its contract. Assumes nothing.\n", keep, f"use {home}.Goals as goal", ans + holes)
+        text = re.sub(r"(?<=\))\.ranges\b", ".fits", "\n\n".join(ans))
+        goal = f"use {home}.Goals as goal" + (f"\nuse {home}.Tie as tie" if "tie." in text else "")
+        write(os.path.join(folder, "Answers.antt"), title + " meets its contract. Assumes nothing.\n", keep, goal, [text])
+
+
+def helper(block, of, n):
+    """A lemma over the values at a place, whose record has a new name."""
+    m = re.search(r"\(c : tie\.(%s)\)" % TOKEN, block)
+    if not m:
+        return block
+    old = next((p for p in n.order if plain(p) == plain(m[1])), None)
+    if old is None:
+        return block
+    new = of["places_by_name"][n.order.index(old)]
+    return paths(block.replace(m[0], f"(c : tie.{new})"), old, n)
 
 
 def invariant(path, block, m, loops):

@@ -15,4 +15,4 @@ store_set-requires-2 c = simp (c.store_set.auto.0, c.store_integer.auto.0, lengt
 
 pub returns : goal.returns
 returns c = let a = c.args in
-    cell_written a.s.now _ _ _ a.at a.sort a.i a.l a.h c.ranges.i c.store_integer.ensures c.store_set.ensures c.before.before.store-set2.ensures
+    cell_written a.s.now _ _ _ a.at a.sort a.i a.l a.h c.ranges.i c.store_integer.ensures c.store_set.ensures c.store_set-2.ensures

@@ -16,6 +16,6 @@ returns-in-Clear c = let v = c.v-1.given in
 
 pub returns-in-Share : goal.returns-in-Share
 unfolding cell_bytes
-returns-in-Share c = let v = c.before.before.before.before.before.v2.given in
+returns-in-Share c = let v = c.v-in-Share-1.given in
     let k = read32 v.0.0 (record { sfits = omega arith }) in
     (rw v.1 (simp k at c.store_cell-in-Share.ensures), rw v.1 (record { sfits = omega arith }, omega arith, omega arith))

@@ -8,6 +8,7 @@ use Rattle.area.specs.Rows.{row_size}
 use Rattle.invariants.proofs.RowLaws.{rows}
 use Rattle.concludes.proofs.ConcludeLaws.{Going, going_none, going_out, going_more, going_all}
 use Rattle.concludes.proofs.conclude.Goals as goal
+use Rattle.concludes.proofs.conclude.Tie as tie
 
 pub loop-outcome-init : goal.loop-outcome-init
 loop-outcome-init c = (refl, refl, refl, left_start _ _ (λ k h o g. going_out g o) going_none)

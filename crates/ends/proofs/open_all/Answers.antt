@@ -7,6 +7,7 @@ use lib.Seq.{length-take-le}
 use Rattle.area.specs.Rows.{row_size}
 use Rattle.ends.proofs.EndsLaws.{opens_none, opens_all}
 use Rattle.ends.proofs.open_all.Goals as goal
+use Rattle.ends.proofs.open_all.Tie as tie
 
 pub returns-then-n-eq0 : goal.returns-then-n-eq0
 returns-then-n-eq0 c =
@@ -14,8 +15,8 @@ returns-then-n-eq0 c =
     opens_none a.program.now a.nodes a.start a.n a.work.now c.if-n-eq0.true
 
 -- the first area is lent whole
-lent : (c : tie.After-open-one-arg) → length (take row_size c.before.before.before.before.args.work.now) ≡ row_size
-lent c = length-take-le row_size c.before.before.before.before.args.work.now (omega arith)
+lent : (c : tie.After-open_one-arg-1) → length (take row_size c.args.work.now) ≡ row_size
+lent c = length-take-le row_size c.args.work.now (omega arith)
 
 pub slice_bounds-open_one-end-2 : goal.slice_bounds-open_one-end-2
 slice_bounds-open_one-end-2 c = sym (lent c)

@@ -10,7 +10,7 @@ pub returns-then-i-inputs : goal.returns-then-i-inputs
 returns-then-i-inputs c =
     let a = c.args in
     let i = get_or a.at.now a.p 0 in
-    rw (read32 (get_or a.inputs.now i (pos 0)) (record { sfits = c.t15.given }))
+    rw (read32 (get_or a.inputs.now i (pos 0)) (record { sfits = c.result-1.given }))
     (next_is a.inputs.now i (get_or a.end.now a.p 0) (pos 0) (omega arith) (omega arith))
 
 pub returns-else-i-inputs : goal.returns-else-i-inputs

@@ -19,16 +19,16 @@ returns-then-many-eq1 c = let a = c.args in
 
 pub returns-in_default-seek : goal.returns-in_default-seek
 returns-in_default-seek c = let a = c.args in
-    second_unbound a.m (names_at a.w.now a.depth.frames) a.names _ (sym c.seek.ensures ∙ c.in-Found.is) _ c.if-many-eq0.false c.if-many-eq1.false (sym c.before.before.seek2.ensures ∙ c.in_default-seek.is)
+    second_unbound a.m (names_at a.w.now a.depth.frames) a.names _ (sym c.seek.ensures ∙ c.in-Found.is) _ c.if-many-eq0.false c.if-many-eq1.false (sym c.seek-2.ensures ∙ c.in_default-seek.is)
 
 pub returns-then-many-eq2 : goal.returns-then-many-eq2
 returns-then-many-eq2 c = let a = c.args in
-    looked_two a.m (names_at a.w.now a.depth.frames) a.names _ (sym c.seek.ensures ∙ c.in-Found.is) _ (sym c.before.before.before.before.seek2.ensures ∙ c.in-Found-seek.is) c.if-many-eq2.true
+    looked_two a.m (names_at a.w.now a.depth.frames) a.names _ (sym c.seek.ensures ∙ c.in-Found.is) _ (sym c.seek-2.ensures ∙ c.in-Found-seek.is) c.if-many-eq2.true
 
 pub returns-in_default-seek-2 : goal.returns-in_default-seek-2
 returns-in_default-seek-2 c = let a = c.args in
-    third_unbound a.m (names_at a.w.now a.depth.frames) a.names _ (sym c.seek.ensures ∙ c.in-Found.is) _ (sym c.before.before.before.before.before.before.before.seek2.ensures ∙ c.in-Found-seek.is) _ (omega (arith, c.if-many-eq0.false, c.if-many-eq1.false, c.if-many-eq2.false)) (sym c.before.before.seek3.ensures ∙ c.in_default-seek-2.is)
+    third_unbound a.m (names_at a.w.now a.depth.frames) a.names _ (sym c.seek.ensures ∙ c.in-Found.is) _ (sym c.seek-2.ensures ∙ c.in-Found-seek.is) _ (omega (arith, c.if-many-eq0.false, c.if-many-eq1.false, c.if-many-eq2.false)) (sym c.seek-3.ensures ∙ c.in_default-seek-2.is)
 
 pub returns : goal.returns
 returns c = let a = c.args in
-    looked_three a.m (names_at a.w.now a.depth.frames) a.names _ (sym c.seek.ensures ∙ c.in-Found.is) _ (sym c.before.before.before.before.before.before.before.before.seek2.ensures ∙ c.in-Found-seek.is) _ (omega (arith, c.if-many-eq0.false, c.if-many-eq1.false, c.if-many-eq2.false)) (sym c.before.before.before.seek3.ensures ∙ c.in-Found-seek-2.is)
+    looked_three a.m (names_at a.w.now a.depth.frames) a.names _ (sym c.seek.ensures ∙ c.in-Found.is) _ (sym c.seek-2.ensures ∙ c.in-Found-seek.is) _ (omega (arith, c.if-many-eq0.false, c.if-many-eq1.false, c.if-many-eq2.false)) (sym c.seek-3.ensures ∙ c.in-Found-seek-2.is)

@@ -8,14 +8,14 @@ pub returns-in-8 : goal.returns-in-8
 unfolding joint_node
 returns-in-8 c =
     let m = c.before.before.before.before in
-    rw (c.before.before.octet2.ensures, c.set_of.ensures, c.name_of.ensures)
+    rw (c.octet-in-8.ensures, c.set_of.ensures, c.name_of.ensures)
     (ap joint_node (share_in _ _ _ m.before.window.ensures m.octet.ensures c.in-8.is))
 
 pub returns-in-9 : goal.returns-in-9
 unfolding joint_node
 returns-in-9 c =
     let m = c.before.before.before in
-    rw (c.before.set-of2.ensures, c.name-of2.ensures)
+    rw (c.set_of-in-9.ensures, c.name_of-in-9.ensures)
     (ap joint_node (reveal_in _ _ _ m.before.window.ensures m.octet.ensures c.in-9.is))
 
 pub returns-in_default : goal.returns-in_default

@@ -9,6 +9,7 @@ use Rattle.words.specs.Words.{number_at}
 use Rattle.nodes.specs.Nodes.{node_of, node_in}
 use Rattle.nodes.proofs.ReadLaws.{body_byte, body_number, kind_is, share_in, reveal_in, other_read}
 use Rattle.nodes.proofs.node_at.Goals as goal
+use Rattle.nodes.proofs.node_at.Tie as tie
 
 -- what is known before the arms
 abbrev body : tie.After-octet → List ℕ
@@ -41,68 +42,68 @@ pub returns-in-3 : goal.returns-in-3
 unfolding node_of
 returns-in-3 c =
     let m = c.before.before.before.before in
-    rw (c.before.before.octet2.ensures, c.before.name-of2.ensures, c.name-of3.ensures)
+    rw (c.octet-in-3.ensures, c.name_of-in-3.ensures, c.name_of-in-3-2.ensures)
     (rw (← byte_of m 0 (omega arith), ← byte_of m 1 (omega arith), ← byte_of m 2 (omega arith)) at (node_of_lem m 3 c.in-3.is))
 
 pub returns-in-4 : goal.returns-in-4
 unfolding node_of
 returns-in-4 c =
     let m = c.before.before.before.before in
-    rw (c.before.before.name-of4.ensures, c.before.name-of5.ensures, c.name-of6.ensures)
+    rw (c.name_of-in-4.ensures, c.name_of-in-4-2.ensures, c.name_of-in-4-3.ensures)
     (rw (← byte_of m 0 (omega arith), ← byte_of m 1 (omega arith), ← byte_of m 2 (omega arith)) at (node_of_lem m 4 c.in-4.is))
 
 pub returns-in-6 : goal.returns-in-6
 unfolding node_of
 returns-in-6 c =
     let m = c.before.before in
-    rw c.name-of7.ensures
+    rw c.name_of-in-6.ensures
     (rw (← byte_of m 0 (omega arith)) at (node_of_lem m 6 c.in-6.is))
 
 pub returns-in-7 : goal.returns-in-7
 unfolding node_of
 returns-in-7 c =
     let m = c.before.before in
-    rw c.name-of8.ensures
+    rw c.name_of-in-7.ensures
     (rw (← byte_of m 0 (omega arith)) at (node_of_lem m 7 c.in-7.is))
 
 pub returns-in-8 : goal.returns-in-8
 returns-in-8 c =
     let m = c.before.before.before.before in
-    rw (c.before.before.octet3.ensures, c.set_of.ensures, c.name-of9.ensures)
+    rw (c.octet-in-8.ensures, c.set_of.ensures, c.name_of-in-8.ensures)
     (share_in _ _ _ m.before.window.ensures m.octet.ensures c.in-8.is)
 
 pub returns-in-9 : goal.returns-in-9
 returns-in-9 c =
     let m = c.before.before.before in
-    rw (c.before.set-of2.ensures, c.name-of10.ensures)
+    rw (c.set_of-in-9.ensures, c.name_of-in-9.ensures)
     (reveal_in _ _ _ m.before.window.ensures m.octet.ensures c.in-9.is)
 
 pub returns-in-10 : goal.returns-in-10
 unfolding node_of
 returns-in-10 c =
     let m = c.before.before.before.before in
-    rw (c.before.before.name-of11.ensures, c.pair.ensures, c.pair2.ensures)
+    rw (c.name_of-in-10.ensures, c.pair.ensures, c.pair-in-10.ensures)
     (rw (← byte_of m 0 (omega arith), ← number_of m 2 1 (omega arith), ← number_of m 2 3 (omega arith)) at (node_of_lem m 10 c.in-10.is))
 
 pub returns-in-11 : goal.returns-in-11
 unfolding node_of
 returns-in-11 c =
     let m = c.before.before.before.before in
-    rw (c.before.before.name-of12.ensures, c.before.pair3.ensures, c.pair4.ensures)
+    rw (c.name_of-in-11.ensures, c.pair-in-11.ensures, c.pair-in-11-2.ensures)
     (rw (← byte_of m 0 (omega arith), ← number_of m 2 1 (omega arith), ← number_of m 2 3 (omega arith)) at (node_of_lem m 11 c.in-11.is))
 
 pub returns-in-12 : goal.returns-in-12
 unfolding node_of
 returns-in-12 c =
     let m = c.before.before.before in
-    rw (c.before.set-of3.ensures, c.pair5.ensures)
+    rw (c.set_of-in-12.ensures, c.pair-in-12.ensures)
     (rw (← number_of m 2 0 (omega arith), ← number_of m 2 2 (omega arith)) at (node_of_lem m 12 c.in-12.is))
 
 pub returns-in-13 : goal.returns-in-13
 unfolding node_of
 returns-in-13 c =
     let m = c.before.before.before in
-    rw (c.before.pair6.ensures, c.name-of13.ensures)
+    rw (c.pair-in-13.ensures, c.name_of-in-13.ensures)
     (rw (← number_of m 2 0 (omega arith), ← byte_of m 2 (omega arith)) at (node_of_lem m 13 c.in-13.is))
 
 pub returns-in_default : goal.returns-in_default

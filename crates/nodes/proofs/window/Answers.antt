@@ -11,4 +11,4 @@ pub returns : goal.returns
 returns c =
     let at = c.args.at in
     number_spells 6 _ _ c.shared_slice_known-1.given
-    (number_join 2 4 _ _ c.half.ensures (number_join 2 2 _ _ c.before.half2.ensures (rw (add_assoc at 2 2) c.half3.ensures)))
+    (number_join 2 4 _ _ c.half.ensures (number_join 2 2 _ _ c.half-2.ensures (rw (add_assoc at 2 2) c.half-3.ensures)))

@@ -11,7 +11,7 @@ pub returns-then-f : goal.returns-then-f
 returns-then-f c = order_is _ _ true false (sym c.if-f.true ∙ c.starts-f.ensures) (sym c.if-s.false ∙ c.starts-s.ensures)
 
 pub returns-then-s-2 : goal.returns-then-s-2
-returns-then-s-2 c = order_is _ _ false true (sym c.if-f.false ∙ c.starts-f.ensures) (sym c.if3.true ∙ c.starts-s.ensures)
+returns-then-s-2 c = order_is _ _ false true (sym c.if-f.false ∙ c.starts-f.ensures) (sym c.if-s-2.true ∙ c.starts-s.ensures)
 
 pub returns : goal.returns
-returns c = order_is _ _ false false (sym c.if-f.false ∙ c.starts-f.ensures) (sym c.if3.false ∙ c.starts-s.ensures)
+returns c = order_is _ _ false false (sym c.if-f.false ∙ c.starts-f.ensures) (sym c.if-s-2.false ∙ c.starts-s.ensures)

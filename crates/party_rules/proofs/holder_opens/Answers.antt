@@ -7,11 +7,11 @@ use Rattle.party_rules.proofs.holder_opens.Goals as goal
 
 pub returns-then-is-2 : goal.returns-then-is-2
 unfolding holder_opens
-returns-then-is-2 c = rw (read32 c.in-Share.i (record { sfits = omega arith }), c.in-Share.is, sym c.is.ensures ∙ c.if-is.true, ← c.join.ensures, sym c.is-then-is.ensures ∙ c.if2.true)
+returns-then-is-2 c = rw (read32 c.in-Share.i (record { sfits = omega arith }), c.in-Share.is, sym c.is.ensures ∙ c.if-is.true, ← c.join.ensures, sym c.is-then-is.ensures ∙ c.if-is-2.true)
 
 pub returns-then-is : goal.returns-then-is
 unfolding holder_opens
-returns-then-is c = rw (c.in-Share.is, sym c.is.ensures ∙ c.if-is.true, ← c.join.ensures, sym c.is-then-is.ensures ∙ c.if2.false)
+returns-then-is c = rw (c.in-Share.is, sym c.is.ensures ∙ c.if-is.true, ← c.join.ensures, sym c.is-then-is.ensures ∙ c.if-is-2.false)
 
 pub returns-in-Nothing : goal.returns-in-Nothing
 unfolding holder_opens

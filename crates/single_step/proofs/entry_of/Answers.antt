@@ -23,7 +23,7 @@ returns-in-Reads c = rw c.in-Reads.is c.read.ensures
 pub returns-in-Writes : goal.returns-in-Writes
 returns-in-Writes c =
     let a = c.args in
-    let i = c.before.effect2.given in
+    let i = c.effect-in-Writes-1.given in
     rw (i.1, read32 i.0.0 (record { sfits = omega arith })) (writes a.inputs.now a.end.now a.at.now a.m i.0.0)
 
 pub returns-in-Empty : goal.returns-in-Empty

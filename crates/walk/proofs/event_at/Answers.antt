@@ -42,7 +42,7 @@ returns-in-1 c = rw (read32 _ (record { sfits = c.load_integer.type_inv }), c.lo
 
 pub returns-in-2 : goal.returns-in-2
 unfolding event_from
-returns-in-2 c = rw (read32 _ (record { sfits = c.load-integer2.type-inv }), c.load-integer2.ensures, c.in-2.is) (simp (number_dropped, add-zero))
+returns-in-2 c = rw (read32 _ (record { sfits = c.load_integer-in-2.type_inv }), c.load_integer-in-2.ensures, c.in-2.is) (simp (number_dropped, add-zero))
 
 pub returns-in-3 : goal.returns-in-3
 returns-in-3 c = rw c.in-3.is c.shared_at.ensures

@@ -7,6 +7,7 @@ use Rattle.area.specs.Rows.{row_size, area_of}
 use Rattle.area.proofs.RowLaws.{row_length}
 use Rattle.advance.proofs.StrideLaws.{led_none, turn_fits, turn_on, turn_last}
 use Rattle.advance.proofs.strides.strides.Goals as goal
+use Rattle.advance.proofs.strides.strides.Tie as tie
 
 pub loop-next-init : goal.loop-next-init
 loop-next-init c = let a = c.args in

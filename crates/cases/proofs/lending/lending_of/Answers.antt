@@ -4,8 +4,8 @@ use Rattle.cases.specs.Lending.{lending_of}
 use Rattle.cases.proofs.lending.lending_of.Goals as goal
 
 pub overflow_cast-head : goal.overflow_cast-head
-overflow_cast-head c = omega (arith, c.shared-slice-known2.given 4)
+overflow_cast-head c = omega (arith, c.shared_slice_known-2-1.given 4)
 
 pub returns : goal.returns
 unfolding lending_of
-returns c = rw (c.up-to4.ensures, c.before.load43.ensures, c.before.before.up-to3.ensures, c.before.before.before.load42.ensures, c.before.before.before.before.up-to2.ensures, c.before.before.before.before.before.before.up_to_lem.ensures, c.load4.ensures)
+returns c = rw (c.up_to-4.ensures, c.load4-3.ensures, c.up_to-3.ensures, c.load4-2.ensures, c.up_to-2.ensures, c.before.before.before.before.before.before.up_to_lem.ensures, c.load4.ensures)

@@ -52,7 +52,7 @@ loop-j-preserved c = let a = c.args in
       c.at-1.given ∙ l.invariant.1,
       c.bytes-1.given ∙ l.invariant.2,
       c.lengths-1.given ∙ l.invariant.3,
-      c.before.before.before.work2.given ∙ c.work-1.given ∙ l.invariant.4,
+      c.work-in-loop-j-1.given ∙ c.work-1.given ∙ l.invariant.4,
     )
 
 pub returns : goal.returns

@@ -8,6 +8,7 @@ use Rattle.ledger.proofs.WriteLaws.{noting}
 use Rattle.ledger.proofs.LedgerLaws.{Going, go_none, go_fits}
 use Rattle.ledger.proofs.EndLaws.{note_out, note_fits, note_more, note_end}
 use Rattle.ledger.proofs.entries.note_all.Goals as goal
+use Rattle.ledger.proofs.entries.note_all.Tie as tie
 
 worked-out : (c : tie.After-meet invariant-loop decreases-loop) → let a = c.before.before.before.before.before.before.args in WorkedOut a.n a.m a.e c.meet.result c.before.before.before.writers.result c.before.before.passed.result
 worked-out c = record { members = c.meet.ensures ∙ ap (meet c.before.before.before.before.before.before.args.m) c.before.all.ensures; whole = c.before.before.before.writers.ensures; passing = c.before.before.passed.ensures }

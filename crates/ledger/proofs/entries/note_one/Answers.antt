@@ -6,10 +6,11 @@ use lib.ListN.{length, get_or}
 use Rattle.records.specs.Events.{event_bytes}
 use Rattle.ledger.proofs.WriteLaws.{area_length, wrote}
 use Rattle.ledger.proofs.entries.note_one.Goals as goal
+use Rattle.ledger.proofs.entries.note_one.Tie as tie
 
 -- the room that it has
-fits : (c : tie.After-chosen) → get_or c.before.before.before.before.args.lengths.now c.before.before.before.before.args.p 0 + length (event_bytes c.chosen.result) ≤ c.before.before.before.before.args.room
-fits c = rw c.chosen.ensures c.before.before.before.before.requires.2
+fits : (c : tie.After-chosen-ev) → get_or c.args.lengths.now c.args.p 0 + length (event_bytes c.chosen-ev.result) ≤ c.args.room
+fits c = rw c.chosen-ev.ensures c.requires.2
 
 pub store-requires : goal.store-requires
 store-requires c = rw (area_length _ _ _ c.requires.0) (fits c.before)

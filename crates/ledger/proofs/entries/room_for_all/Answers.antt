@@ -9,6 +9,7 @@ use Rattle.invariants.proofs.AllOfLaws.{all_none, all_more}
 use Rattle.ledger.proofs.RevealLaws.{WorkedOut, all_below}
 use Rattle.ledger.proofs.RoomLaws.{Fit, rooms_all, rooms_lack}
 use Rattle.ledger.proofs.entries.room_for_all.Goals as goal
+use Rattle.ledger.proofs.entries.room_for_all.Tie as tie
 
 pub loop-those-init : goal.loop-those-init
 loop-those-init c = left_start _ _ (λ k h o a. all_more _ _ k a (rw o)) (all_none _ _)

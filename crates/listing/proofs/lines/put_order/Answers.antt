@@ -1,6 +1,5 @@
 -- `listing::lines::put_order` meets its contract. Assumes nothing.
 use native.Mathlib.Omega.{arith}
-use borrow.Author.Rules.{rules}
 use Rattle.order.specs.Order.{continued}
 use Rattle.text.specs.Text.{ascii}
 use Rattle.text.specs.TextLaws.{puts_length, puts_then, spaced_short}

@@ -1,5 +1,4 @@
 -- `listing::lines::put_order_word` meets its contract. Assumes nothing.
-use borrow.Author.Rules.{rules}
 use Rattle.text.specs.Text.{ascii}
 use Rattle.listing.specs.Lines.{order_word}
 use Rattle.listing.proofs.lines.put_order_word.Goals as goal

@@ -2,7 +2,6 @@
 use mathlib.Core.Path.{◌≡◌, sym, ap, ◌∙◌}
 use Prim.Native.Nat.{◌-◌}
 use native.Mathlib.Omega.{arith}
-use borrow.Author.Rules.{rules}
 use Rattle.records.specs.EventLaws.{event_long}
 use Rattle.walk.specs.Walk.{event, step_answer, told}
 use Rattle.text.specs.Text.{ascii}
@@ -21,7 +20,7 @@ bounds-bytes-start c = let h : event c.in-Event.field-0 c.in-Event.next.at ≡ s
     omega (arith, f.onward, f.inside, event_long c.in-Event.field-0)
 
 pub overflow_cast-bytes : goal.overflow_cast-bytes
-overflow_cast-bytes c = omega (arith, c.shared-slice-known2.given c.loop-next.start)
+overflow_cast-bytes c = omega (arith, c.shared_slice_known-in-Event-1.given c.loop-next.start)
 
 pub put_marked-to-requires : goal.put_marked-to-requires
 unfolding ascii

@@ -10,6 +10,7 @@ use mir.Val.{to_z, of_z}
 use Rattle.numbers.proofs.IntegerLaws.{read32}
 use Rattle.meets.proofs.MeetLaws.{Agreeing, below_in, agree_passes, agree_none, agree_all, agree_more, agree_not}
 use Rattle.meets.proofs.present.all_agree.Goals as goal
+use Rattle.meets.proofs.present.all_agree.Tie as tie
 
 members : (c : tie.After-meet invariant-loop decreases-loop) → c.meet.result ≡ meet c.before.before.before.before.args.m (all c.before.before.before.before.args.n)
 members c = c.meet.ensures ∙ ap (meet c.before.before.before.before.args.m) c.before.all.ensures

@@ -8,6 +8,7 @@ use Rattle.parties.proofs.LoopLaws.{Here, left_start, left_here, left_next, left
 use Rattle.rules.specs.declared.effects.Offer.TheVariants.{Empty}
 use Rattle.meets.proofs.MeetLaws.{Gathering, below_in, gather_passes, gather_none, gather_all, gather_more, gather_missing}
 use Rattle.meets.proofs.present.gather.Goals as goal
+use Rattle.meets.proofs.present.gather.Tie as tie
 
 members : (c : tie.After-meet invariant-loop decreases-loop) → c.meet.result ≡ meet c.before.before.before.before.args.m (all c.before.before.before.before.args.n)
 members c = c.meet.ensures ∙ ap (meet c.before.before.before.before.args.m) c.before.all.ensures

@@ -1,6 +1,5 @@
 -- `printing::lines::put_joint` meets its contract. Assumes nothing.
 use native.Mathlib.Omega.{arith}
-use borrow.Author.Rules.{rules}
 use Rattle.text.specs.Text.{ascii}
 use Rattle.printing.specs.Lines.{joint_lines, after_joint}
 use Rattle.printing.proofs.AnswerLaws.{lines_of}

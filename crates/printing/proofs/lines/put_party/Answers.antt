@@ -1,6 +1,5 @@
 -- `printing::lines::put_party` meets its contract. Assumes nothing.
 use native.Mathlib.Omega.{arith}
-use borrow.Author.Rules.{rules}
 use Rattle.text.specs.Text.{ascii}
 use Rattle.text.specs.TextLaws.{decimal_short, puts_length, puts_then, spaced_short}
 use Rattle.printing.specs.Lines.{party_line}

@@ -1,6 +1,5 @@
 -- `printing::lines::put_single` meets its contract. Assumes nothing.
 use native.Mathlib.Omega.{arith}
-use borrow.Author.Rules.{rules}
 use Rattle.text.specs.Text.{ascii}
 use Rattle.text.specs.TextLaws.{puts_then}
 use Rattle.printing.specs.Lines.{single_lines, after_single}

@@ -1,6 +1,5 @@
 -- `printing::lines::put_two` meets its contract. Assumes nothing.
 use native.Mathlib.Omega.{arith}
-use borrow.Author.Rules.{rules}
 use Rattle.text.specs.TextLaws.{decimal_short, puts_length, puts_then}
 use Rattle.text.specs.Text.{ascii}
 use Rattle.printing.specs.Lines.{two_numbers}

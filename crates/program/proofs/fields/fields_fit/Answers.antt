@@ -15,11 +15,11 @@ returns-in-OneName c = rw (c.in-OneName.is, c.name_fits.ensures) (simp (get_or-d
 
 pub returns-in-Operation : goal.returns-in-Operation
 unfolding rule_fits
-returns-in-Operation c = rw (c.in-Operation.is, c.name-fits3.ensures, c.name_fits-in-Operation.ensures, c.byte.ensures) (simp (get_or-drop, add-zero))
+returns-in-Operation c = rw (c.in-Operation.is, c.name_fits-in-Operation-2.ensures, c.name_fits-in-Operation.ensures, c.byte.ensures) (simp (get_or-drop, add-zero))
 
 pub returns-in-ThreeNames : goal.returns-in-ThreeNames
 unfolding rule_fits
-returns-in-ThreeNames c = rw (c.in-ThreeNames.is, c.name-fits6.ensures, c.before.name-fits5.ensures, c.name_fits-in-ThreeNames.ensures) (simp (get_or-drop, add-zero))
+returns-in-ThreeNames c = rw (c.in-ThreeNames.is, c.name_fits-in-ThreeNames-3.ensures, c.name_fits-in-ThreeNames-2.ensures, c.name_fits-in-ThreeNames.ensures) (simp (get_or-drop, add-zero))
 
 pub returns-in-Share : goal.returns-in-Share
 unfolding rule_fits

@@ -25,4 +25,4 @@ returns c = let a = c.args in
     let w = simp (read32 a.i c.ranges.i) at c.store_byte_and_integer.ensures in
     let e1 = run_after (6 ∷ []) (a.tag ∷ integer_bytes a.i) a.s.now _ _ a.at refl w in
     let e2 = run_after (6 ∷ a.tag ∷ integer_bytes a.i) (set_bytes a.l) a.s.now _ _ a.at e1 c.store_set.ensures in
-    run_after (6 ∷ a.tag ∷ integer_bytes a.i ++ set_bytes a.l) (set_bytes a.h) a.s.now _ _ a.at e2 c.before.before.store-set2.ensures
+    run_after (6 ∷ a.tag ∷ integer_bytes a.i ++ set_bytes a.l) (set_bytes a.h) a.s.now _ _ a.at e2 c.store_set-2.ensures

@@ -2,7 +2,6 @@
 use mathlib.Core.Path.{sym}
 use native.Mathlib.Omega.{arith}
 use lib.Seq.{length-take-le}
-use borrow.Author.Rules.{rules}
 use Rattle.text.specs.Text.{ascii}
 use Rattle.cases.proofs.InputLaws.{placed, bad_input}
 use Rattle.rehearsal.proofs.BothLaws.{bad_put}

@@ -12,7 +12,7 @@ unfolding hex
 loop-i-init c = (omega arith, puts_nothing)
 
 pub digit-requires : goal.digit-requires
-digit-requires c = omega (arith, c.shared-slice-known2.given c.loop-i.i)
+digit-requires c = omega (arith, c.shared_slice_known-in-loop-i-1.given c.loop-i.i)
 
 pub bounds-out-to : goal.bounds-out-to
 bounds-out-to c =

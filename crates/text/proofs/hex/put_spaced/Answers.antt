@@ -1,6 +1,5 @@
 -- `text::hex::put_spaced` meets its contract. Assumes nothing.
 use native.Mathlib.Omega.{arith}
-use borrow.Author.Rules.{rules}
 use Rattle.text.specs.Text.{ascii}
 use Rattle.text.specs.TextLaws.{hex_length, puts_length, puts_nothing, puts_then, spaced_none, spaced_some}
 use Rattle.text.proofs.hex.put_spaced.Goals as goal

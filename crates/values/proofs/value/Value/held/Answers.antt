@@ -7,7 +7,7 @@ use Rattle.values.proofs.value.Value.held.Goals as goal
 
 pub returns-then-is-3 : goal.returns-then-is-3
 unfolding held
-returns-then-is-3 c = rw (read32 c.in-Share.i (record { sfits = omega arith }), c.in-Share.is, sym c.is-in-Share.ensures ∙ c.before.before.if2.true, sym c.before.is3.ensures ∙ c.if3.true)
+returns-then-is-3 c = rw (read32 c.in-Share.i (record { sfits = omega arith }), c.in-Share.is, sym c.is-in-Share.ensures ∙ c.if-is-2.true, sym c.is-then-is-2.ensures ∙ c.if-is-3.true)
 
 pub returns-in-Nothing : goal.returns-in-Nothing
 unfolding held
@@ -23,8 +23,8 @@ returns-else-is c = rw (c.in-Clear.is, sym c.is.ensures ∙ c.if-is.false)
 
 pub returns-else-is-3 : goal.returns-else-is-3
 unfolding held
-returns-else-is-3 c = rw (c.in-Share.is, sym c.is-in-Share.ensures ∙ c.before.before.if2.true, sym c.before.is3.ensures ∙ c.if3.false)
+returns-else-is-3 c = rw (c.in-Share.is, sym c.is-in-Share.ensures ∙ c.if-is-2.true, sym c.is-then-is-2.ensures ∙ c.if-is-3.false)
 
 pub returns-else-is-2 : goal.returns-else-is-2
 unfolding held
-returns-else-is-2 c = rw (c.in-Share.is, sym c.is-in-Share.ensures ∙ c.if2.false)
+returns-else-is-2 c = rw (c.in-Share.is, sym c.is-in-Share.ensures ∙ c.if-is-2.false)
