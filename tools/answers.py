@@ -61,14 +61,14 @@ class Names:
         if step in ("args", "requires", "ranges", "fits"):
             return "c." + ".".join([{"fits": "ranges"}.get(step, step)] + rest)
         for index, name, (old, new) in self.lineage(place):
-            if plain(old) != plain(step):
+            if plain(old).lower() != plain(step).lower():
                 continue
             arm = None
             for i2, name2, _ in self.lineage(place):
                 entry = self.of["arms"][i2] if i2 < len(self.of["arms"]) else None
                 if entry:
                     for field, ostep, ofields in entry[2]:
-                        if plain(ostep) == plain(old) and not field.endswith("-own") and rest[: len(ofields)] == ofields:
+                        if plain(ostep) == plain(old) and rest[: len(ofields)] == ofields:
                             if arm is None or len(ofields) > arm[2]:
                                 arm = (entry[0], field, len(ofields))
             if arm:
@@ -116,7 +116,7 @@ def turn(path, crate, names):
                 if plain(by_name[name]).endswith(plain(need[0])) and need[1] not in [t[0] for t in target.values()]:
                     target[name] = (need[1], of["asked_at"][i][0])
                     break
-    inv, ans, holes = [], [], []
+    inv, ans, holes, helpers = [], [], [], []
     loops = {old: (new, vs, ch) for ((old, new), vs), ch in zip(of["loops"], of["changed"])}
     for b in decls:
         if b is spec:
@@ -138,11 +138,16 @@ def turn(path, crate, names):
             short = re.sub(r"^%s c( κs)? = " % re.escape(name), "", short)
             if short in ("search rules", "omega arith", "refl") or goal.startswith(("shape_of", "enum_", "known_")):
                 continue
-            body = re.sub(r"(?m)^%s (c|_)( κs| _)? =" % re.escape(name), lambda k: f"{goal} {k[1]} =", body)
-            body = paths(body, place, n)
+            body = re.sub(r"(?m)^%s c κs(?= |$)" % re.escape(name), lambda k: f"{goal} c", body)
+            body = re.sub(r"(?m)^%s(?= )" % re.escape(name), lambda k: goal, body)
+            body = inlined(paths(body, place, n), helpers)
             ans.append(b[: m.start()] + f"pub {goal} : goal.{goal}" + body)
             continue
-        ans.append(helper(b, of, n))
+        h = helper(b, n)
+        if h:
+            helpers.append(h)
+        else:
+            ans.append(b)
     old = os.path.join("/tmp/old-proofs", crate, os.path.relpath(path, f"crates/{crate}"))
     os.makedirs(os.path.dirname(old), exist_ok=True)
     shutil.move(path, old)
@@ -157,16 +162,46 @@ def turn(path, crate, names):
         write(os.path.join(folder, "Answers.antt"), title + " meets its contract. Assumes nothing.\n", keep, goal, [text])
 
 
-def helper(block, of, n):
-    """A lemma over the values at a place, whose record has a new name."""
-    m = re.search(r"\(c : tie\.(%s)\)" % TOKEN, block)
+def helper(block, n):
+    """A lemma over the values at a place: its name, type, clause and unfolded words, as seen from any later place."""
+    m = re.match(r"(?s)(?:-- [^\n]*\n)*(%s) : \(c : tie\.(%s)[^)]*\)\s*→ (.*?)\n((?:unfolding [^\n]*\n)?)\1 c =\s*(.*)\Z" % (TOKEN, TOKEN), block)
     if not m:
-        return block
-    old = next((p for p in n.order if plain(p) == plain(m[1])), None)
+        return None
+    old = next((p for p in n.order if plain(p) == plain(m[2])), None)
     if old is None:
-        return block
-    new = of["places_by_name"][n.order.index(old)]
-    return paths(block.replace(m[0], f"(c : tie.{new})"), old, n)
+        print("look: helper", m[1], m[2])
+        return None
+    return m[1], paths(m[3].strip(), old, n), paths(m[5].rstrip(), old, n), m[4].replace("unfolding", "").strip()
+
+
+def inlined(body, helpers):
+    """The answer with a let for each helper that it uses, in order."""
+    wanted, more = [], True
+    text = body
+    while more:
+        more = False
+        for h in helpers:
+            if h not in wanted and re.search(r"(?<![\w'.-])%s c(?![\w'-])" % re.escape(h[0]), text):
+                wanted.append(h)
+                text += h[1] + h[2]
+                more = True
+    if not wanted:
+        return body
+    wanted = [h for h in helpers if h in wanted]
+
+    def bare(t):
+        for h in wanted:
+            t = re.sub(r"\(%s c(?:\.before)*\)" % re.escape(h[0]), h[0], t)
+            t = re.sub(r"(?<![\w'.-])%s c(?:\.before)*(?![\w'.-])" % re.escape(h[0]), h[0], t)
+        return t
+
+    lets = "".join(f"\n    let {h[0]} : ({bare(h[1])}) = {bare(h[2])} in" for h in wanted)
+    unfolds = " ".join(h[3] for h in wanted if h[3])
+    m = re.search(r"(?m)^(\S+(?: \S+)*?) = ?\n? *", body)
+    head, tail = body[: m.start()], bare(body[m.end() :])
+    if unfolds:
+        head = re.sub(r"unfolding ", f"unfolding {unfolds} ", head) if "unfolding" in head else f"\nunfolding {unfolds}\n" + head.lstrip("\n")
+    return head + m[1] + " =" + lets + "\n    " + tail
 
 
 def invariant(path, block, m, loops):
@@ -202,6 +237,26 @@ def invariant(path, block, m, loops):
 
 
 def paths(body, place, n):
+    for m in list(re.finditer(r"let (%s) = (c(?:\.before)+) in\n? *" % TOKEN, body)):
+        alias = m[1]
+        if re.search(r"(?<![\w'.-])%s(?![\w'.-])" % re.escape(alias), body[m.end() :]):
+            print("look: place alias", alias, place)
+            continue
+        body = body.replace(m[0], "", 1)
+        body = re.sub(r"(?<![\w'.-])%s(?=\.)" % re.escape(alias), "c.before", body)
+    for m in list(re.finditer(r"let (%s) = (c(?:\.before)*)\.(%s)(\.given)? in\n? *" % (TOKEN, TOKEN), body)):
+        alias, step, given = m[1], m[3], m[4]
+        if step in ("args", "requires", "ranges", "before"):
+            continue
+        if not given and not re.search(r"(?<![\w'.-])%s\.given" % re.escape(alias), body):
+            continue
+        uses = re.findall(r"(?<![\w'.-])%s((?:\.%s)*)" % (re.escape(alias), TOKEN), body[m.end() :])
+        if any(not u for u in uses):
+            print("look: alias", alias, "stands alone", place)
+            continue
+        body = body.replace(m[0], "", 1)
+        body = re.sub(r"(?<![\w'.-])%s(?=\.)" % re.escape(alias), f"c.{step}" + (given or ""), body)
+
     def one(m):
         parts = m[2].split(".")[1:]
         parts = [p for p in parts if p != "before"] if parts and parts[0] == "before" else parts

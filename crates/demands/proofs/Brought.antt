@@ -10,7 +10,7 @@ use lib.Dec.{eqb}
 use lib.IntN.{ℤ}
 use lib.ListN.{get_or}
 use Rattle.parties.specs.Sets.{member, meet, join, is_empty, same_set, only, make_up}
-use Rattle.parties.specs.SetLaws.{member_join, member_only, same_set, same_self, some_member}
+use Rattle.parties.specs.SetLaws.{member_join, member_only, same_set_lem, same_self, some_member}
 use Rattle.limits.specs.declared.Name.{Name}
 use Rattle.limits.specs.declared.Party.{Party}
 use Rattle.parties.specs.declared.sets.PartySet.{PartySet}
@@ -100,7 +100,7 @@ opens m q (Share j k l) mt i h e = go (same_set l k) (same_set (join k q) m) ref
     go true true s f e =
         let n : j ≡ i = cc in
         let w : k ≡ h = cc in
-        record { is = rw (same_set l k s, n, w); fits = rw (← w) (same_set (join k q) m f); what = cc }
+        record { is = rw (same_set_lem l k s, n, w); fits = rw (← w) (same_set_lem (join k q) m f); what = cc }
     go true false s f e = never e
     go false u s f e = never e
 
@@ -207,7 +207,7 @@ somebody m e b mt i h j k = let g = judged m e b mt i h k in go (joint e j) g.vs
     go (shares a q x) vs l d =
         let g = gave m a q (first vs) mt i h (unfold judge at_share in d) in
         let t : member a.index (only a.index) ≡ true = member_only a.index a.index ∙ eq-eqb a.index a.index refl in
-        (a.index, ap (member a.index) (sym g.who) ∙ t, in_left (only a.index) q m a.index (sym (same_set m (join (only a.index) q) (unfold make_up in g.fits))) t)
+        (a.index, ap (member a.index) (sym g.who) ∙ t, in_left (only a.index) q m a.index (sym (same_set_lem m (join (only a.index) q) (unfold make_up in g.fits))) t)
     go (reveals q x) vs l d =
         let g = opens m q (first vs) mt i h (unfold judge at_reveal in d) in
         let f : Full (first vs) = subst FullLooked l (unfold names_of in looked_full m b x) in

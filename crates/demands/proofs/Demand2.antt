@@ -24,7 +24,7 @@ use Rattle.demands.specs.Rounds.{Rounds, IsEnded, turns_of}
 use Rattle.demands.specs.Walked.{events_in}
 use Rattle.demands.specs.Demand2.{has_finished, Equal, Demand2}
 use Rattle.demands.proofs.StepCount.{ended_by}
-use Rattle.demands.proofs.FinishedLaws.{turns_below, each_finished, all_finished}
+use Rattle.demands.proofs.FinishedLaws.{turns_below, each_finished, all_finished_lem}
 use Rattle.demands.proofs.FinishedRecords.{shown}
 use Rattle.demands.proofs.SameRecords.{same_record, rounds_complete}
 use Rattle.demands.proofs.TurnCount.{turn_count}
@@ -135,7 +135,7 @@ module _ (p : Program) (L L' : Lent) (budget steps : ℕ) (same : Equal p L L') 
   rounds_answer : (ts : List ℕ) → IsJointRun (joint_call L' ts).answer → Rounds p.parties steps ts → (joint_call L' ts).answer ≡ complete (turns_of S (inputs_of L) steps)
   rounds_answer ts r k =
       ap (λ (x : Left JointAnswer). x.answer) (joint_is L' ts (joint ts r))
-      ∙ answered p.parties L' (joint_run p L' ts) (all_finished p.parties (joint_run p L' ts).sites (rounds_done ts r k))
+      ∙ answered p.parties L' (joint_run p L' ts) (all_finished_lem p.parties (joint_run p L' ts).sites (rounds_done ts r k))
       ∙ ap complete (counted ts r (rounds_done ts r k))
 
   finished_same : AllBytes L.program → AllIntegers L.inputs → (ts : List ℕ) → IsJointRun (joint_call L' ts).answer → (P : ℕ) → P < p.parties

@@ -25,7 +25,7 @@ each_finished n J e X x = go (is_finished (J X)) refl
     go true q = refl
     go false q = finished_lack J n X x q ∙ e
 
-pub all_finished : (n : ℕ) (J : Sites) → ((X : ℕ) → X < n → is_finished (J X) ≡ true) → all_finished n J ≡ true
+pub all_finished_lem : (n : ℕ) (J : Sites) → ((X : ℕ) → X < n → is_finished (J X) ≡ true) → all_finished n J ≡ true
 unfolding all_finished
-all_finished zero J h = refl
-all_finished (suc n) J h = rw (h n (le_refl (suc n)), all_finished n J (λ X x. h X (omega arith)))
+all_finished_lem zero J h = refl
+all_finished_lem (suc n) J h = rw (h n (le_refl (suc n)), all_finished_lem n J (λ X x. h X (omega arith)))

@@ -60,5 +60,5 @@ kind_fits w m vs (CASE x e1 e2) = λ t. tt
 kind_fits w m vs (PAR p e) = (enters_fits w m p e, tt)
 kind_fits w m vs (CALL f x) = tt
 
-pub rule_fits : (w : View) (e : Node) (m : PartySet) (b : Names) → Fits w (is_joint e) m (rule w e m b)
-rule_fits w e m b = rule_holds m (Fits w (is_joint e) m) tt tt w e b tt (λ vs f. kind_fits w m vs e)
+pub rule_fits_lem : (w : View) (e : Node) (m : PartySet) (b : Names) → Fits w (is_joint e) m (rule w e m b)
+rule_fits_lem w e m b = rule_holds m (Fits w (is_joint e) m) tt tt w e b tt (λ vs f. kind_fits w m vs e)

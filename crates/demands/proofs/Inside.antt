@@ -26,7 +26,7 @@ use Rattle.rules.specs.declared.effects.Effect.TheVariants.{Refuse, Goes, Reads,
 use Rattle.invariants.specs.Changes.{on_frame}
 use Rattle.invariants.proofs.Passing.{Passes, same, alone, together, apart}
 use Rattle.demands.specs.Rounds.{is_joint}
-use Rattle.demands.proofs.Fits.{FitsMove, Fits, rule_fits}
+use Rattle.demands.proofs.Fits.{FitsMove, Fits, rule_fits_lem}
 use Rattle.demands.proofs.Seen.{frames_of, slice_control, seen_control, seen}
 
 abbrev pub AllIn : ℕ → List Frame → Type 0
@@ -97,7 +97,7 @@ module _ (P : ℕ) (c : Control) (inside : member P c.mode ≡ true) (frames : A
 
   own_inside : (S : Setting) (b : Book) → InsideOwn P (own S P c b)
   unfolding own
-  own_inside S b = perform_inside S b _ (is_joint (node_at S.program c.node)) (rule_fits (site P) (node_at S.program c.node) c.mode c.names)
+  own_inside S b = perform_inside S b _ (is_joint (node_at S.program c.node)) (rule_fits_lem (site P) (node_at S.program c.node) c.mode c.names)
 
 -- whatever turns
 pub passes_inside : (S : Setting) (P : ℕ) (s s' : Site) → Passes S P s s' → Inside P s → Inside P s'

@@ -7,7 +7,7 @@ use lib.IntN.{ℤ}
 use lib.ListN.{get_or}
 use Rattle.numbers.specs.Integers.{operate}
 use Rattle.parties.specs.Sets.{member, meet, join, only, make_up}
-use Rattle.parties.specs.SetLaws.{member_meet, member_join, same_set}
+use Rattle.parties.specs.SetLaws.{member_meet, member_join, same_set_lem}
 use Rattle.limits.specs.declared.Name.{Name}
 use Rattle.parties.specs.declared.sets.PartySet.{PartySet}
 use Rattle.values.specs.Values.{place, slice, had_by}
@@ -115,8 +115,8 @@ module _ (P : ℕ) (m : PartySet) (outside : member P m ≡ false) where
   kind_quiet vs h READ = λ one. tt
   kind_quiet vs h (WRITE x) = λ i e. tt
   kind_quiet vs h (EMBED x) = λ i e. share_quiet i
-  kind_quiet vs h (SHARE a q x) = (λ i l e f j. rw (out_part (only a.index) q (sym (same_set m (join (only a.index) q) f))), tt)
-  kind_quiet vs h (REVEAL q x) = (λ i g l e f j. rw (out_part g q (same_set (join g q) m f)), tt)
+  kind_quiet vs h (SHARE a q x) = (λ i l e f j. rw (out_part (only a.index) q (sym (same_set_lem m (join (only a.index) q) f))), tt)
+  kind_quiet vs h (REVEAL q x) = (λ i g l e f j. rw (out_part g q (same_set_lem (join g q) m f)), tt)
   kind_quiet vs h (LET x e1 e2) = tt
   kind_quiet vs h (CASE x e1 e2) = λ t. tt
   kind_quiet vs h (PAR p e) = (λ inside. member_meet P m p ∙ rw outside, slice_nothing P)

@@ -44,7 +44,7 @@ use Rattle.demands.specs.Rounds.{is_joint}
 use Rattle.demands.proofs.Sliced.{slice_move, slice_effect, clear_slice, rule_slice}
 use Rattle.demands.proofs.Quiet.{QuietMove, Quiet, clear_quiet, rule_quiet}
 use Rattle.demands.proofs.Brought.{bring, meets_slice}
-use Rattle.demands.proofs.Fits.{Fits, rule_fits}
+use Rattle.demands.proofs.Fits.{Fits, rule_fits_lem}
 use Rattle.demands.proofs.Seen.{frames_of, slice_control, seen_control, seen_next, seen, Fine, Nested}
 
 land_any : (d e P : ℕ) (c : Control) (b : Book) → land d (seen_control P c) b ≡ land e (seen_control P c) b
@@ -231,7 +231,7 @@ module _ (n P : ℕ) (c : Control) (inside : member P c.mode ≡ true) (nested :
   step_seen S t b p small j h =
       rw (rule_slice P c.mode inside (node_at S.program c.node) c.names j)
       (perform_seen S t b _ p small (subst (λ (t : Bool). Fits Whole t c.mode (rule Whole (node_at S.program c.node) c.mode c.names)) j
-      (rule_fits Whole (node_at S.program c.node) c.mode c.names)) (whole_sound c.mode (node_at S.program c.node) c.names) h)
+      (rule_fits_lem Whole (node_at S.program c.node) c.mode c.names)) (whole_sound c.mode (node_at S.program c.node) c.names) h)
 
   -- a settled step had room for each member
   had_room : (S : Setting) (t : ℕ) (b : Books) (o : Option Event) (mv : Move) → P < S.program.parties → Fine (settle_all S t c b o mv) → room_for S.room P o (b P) ≡ true

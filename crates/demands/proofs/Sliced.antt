@@ -8,7 +8,7 @@ use lib.IntN.{ℤ}
 use lib.ListN.{get_or}
 use Rattle.numbers.specs.Integers.{operate}
 use Rattle.parties.specs.Sets.{member, meet, is_empty, same_set, none}
-use Rattle.parties.specs.SetLaws.{member_meet, member_none, same_set}
+use Rattle.parties.specs.SetLaws.{member_meet, member_none, same_set_lem}
 use Rattle.limits.specs.declared.Name.{Name}
 use Rattle.parties.specs.declared.sets.PartySet.{PartySet}
 use Rattle.values.specs.Values.{place, moved, restrict, slice, held, had_by}
@@ -101,7 +101,7 @@ module _ (P : ℕ) (m : PartySet) (inside : member P m ≡ true) where
   not_the_mode l e = go (same_set l m) refl
     where
       go : (t : Bool) → same_set l m ≡ t → same_set l m ≡ false
-      go true q = absurd (false≢true (sym e ∙ ap (member P) (same_set l m q) ∙ inside))
+      go true q = absurd (false≢true (sym e ∙ ap (member P) (same_set_lem l m q) ∙ inside))
       go false q = q
 
   pub held_slice : (v : Value) → held m (slice P v) ≡ held m v

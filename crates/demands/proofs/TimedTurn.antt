@@ -28,7 +28,7 @@ use Rattle.invariants.proofs.AllOfLaws.{all_member, all_by}
 use Rattle.invariants.proofs.Passing.{Gathers, Touched, not_at_all, itself, meeting_there, turn_touches}
 use Rattle.demands.specs.Rounds.{is_joint, active, meets_at, how_many}
 use Rattle.demands.proofs.Brought.{bring, somebody}
-use Rattle.demands.proofs.Fits.{Fits, rule_fits}
+use Rattle.demands.proofs.Fits.{Fits, rule_fits_lem}
 use Rattle.demands.proofs.Seen.{seen, seen_control, slice_control, Fine, NestedIn, Nested, nested_below}
 use Rattle.demands.proofs.SeenStep.{step_seen, met_attends, met_seen}
 use Rattle.demands.proofs.Inside.{Inside}
@@ -61,7 +61,7 @@ pub meets_here : (S : Setting) (t : ℕ) (c : Control) (b : Books) → is_joint 
 unfolding step perform
 meets_here S t c b j = go (rule Whole (node_at S.program c.node) c.mode c.names) refl
     (subst (λ (t : Bool). Fits Whole t c.mode (rule Whole (node_at S.program c.node) c.mode c.names)) j
-    (rule_fits Whole (node_at S.program c.node) c.mode c.names))
+    (rule_fits_lem Whole (node_at S.program c.node) c.mode c.names))
   where
     go : (e : Effect) → rule Whole (node_at S.program c.node) c.mode c.names ≡ e → Fits Whole true c.mode e → Fine (perform S t c b e) → MeetsHere S c
     go (Refuse k) e f g = absurd g

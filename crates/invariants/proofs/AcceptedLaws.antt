@@ -48,11 +48,11 @@ module _ {A : Type 0} (c : Call A) (L : Lent) (a : Accepted c.areas c.first_bad 
 
 -- ---- the single call
 
-left_by : (n : ℕ) (L : Lent) (s : Single) → (answer : SingleAnswer) × (single_left n L s ≡ left_by n L answer (books_of s))
+left_by_lem : (n : ℕ) (L : Lent) (s : Single) → (answer : SingleAnswer) × (single_left n L s ≡ left_by n L answer (books_of s))
 unfolding single_left
-left_by n L (going t c b) = (_, refl)
-left_by n L (ended t v b) = (_, refl)
-left_by n L (stopped t refusal e b) = (_, refl)
+left_by_lem n L (going t c b) = (_, refl)
+left_by_lem n L (ended t v b) = (_, refl)
+left_by_lem n L (stopped t refusal e b) = (_, refl)
 
 module _ (L : Lent) (budget : ℕ) where
   -- its answer is that of a run, so it was accepted
@@ -70,14 +70,14 @@ module _ (L : Lent) (budget : ℕ) where
     pub single_record : (P : ℕ) → P < a.program.parties → record_of a.program.parties P (single_call L budget) ≡ written (books_of (single_run a.program L budget) P).events
     unfolding single_call single_of
     single_record P l =
-        let (answer, left) = left_by a.program.parties L (single_run a.program L budget) in
+        let (answer, left) = left_by_lem a.program.parties L (single_run a.program L budget) in
         call_record (single_of L budget) L a answer _ left (λ Q g. single_fits_lem (setting_of a.program L) (inputs_of L) (enough a).room budget Q g) P l
 
     -- with its length among the lengths
     pub single_length : (P : ℕ) → P < a.program.parties → get_or (single_call L budget).lengths P 0 ≡ used (books_of (single_run a.program L budget) P)
     unfolding single_call single_of
     single_length P l =
-        let (answer, left) = left_by a.program.parties L (single_run a.program L budget) in
+        let (answer, left) = left_by_lem a.program.parties L (single_run a.program L budget) in
         call_length (single_of L budget) L a answer _ left P l
 
 -- ---- the joint call

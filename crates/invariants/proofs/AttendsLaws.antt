@@ -8,7 +8,7 @@ use borrow.Author.Tests.{eqb-true}
 use lib.Dec.{eqb}
 use lib.IntN.{pos}
 use Rattle.parties.specs.Sets.{same_set}
-use Rattle.parties.specs.SetLaws.{same_set}
+use Rattle.parties.specs.SetLaws.{same_set_lem}
 use Rattle.parties.specs.declared.sets.PartySet.{PartySet}
 use Rattle.program.specs.Check.{node_at}
 use Rattle.refusals.specs.Numbers.{no_room}
@@ -79,7 +79,7 @@ pub there_same : (S : Setting) (e : ℕ) (m : PartySet) (P : ℕ) (c : Control) 
 unfolding attendance
 there_same S e m P c b r =
     let both = (and-eq-true_iff (eqb c.node e) (same_set c.mode m)).0 (there_if _ _ r).0 in
-    (eqb-true c.node e both.0, same_set c.mode m both.1)
+    (eqb-true c.node e both.0, same_set_lem c.mode m both.1)
 
 -- and attends the meeting of that node
 pub there_attends : (S : Setting) (e : ℕ) (m : PartySet) (P : ℕ) (c : Control) (b : Book) (mt : Meeting) → joint_meeting (node_at S.program e) ≡ some mt → is_there (attendance S e m P (running c b)) ≡ true

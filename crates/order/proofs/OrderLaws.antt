@@ -5,7 +5,7 @@ use mathlib.Core.List.{List}
 use Prim.Native.Nat.{ℕ, ◌+◌, ◌-◌, ◌≤◌, ◌<◌}
 use native.Mathlib.Numerals.{add-one}
 use native.Mathlib.Nat.{le_of_eq, add_comm}
-use denote.Ref.{MutBor}
+use denote.Ref.{Bor}
 use base.Fml.{GName}
 use lib.ListN.{length, get_or, take, drop, length-drop, drop_of_length-le}
 use lib.Seq.{drop-cons, take_all}
@@ -70,10 +70,10 @@ pub tail_is : (n : ℕ) (l : List ℕ) → take (length l - n) (drop n l) ≡ dr
 tail_is n l = take_all (length l - n) (drop n l) (le_of_eq (length-drop n l))
 
 -- the part from n on of the reference x, where the order is o, is what `Continues` asks
-module _ (a b : MutBor (List ℕ)) (o : Order) (eo : order_of a.now b.now ≡ o) where
-  pub part_is : (x : MutBor (List ℕ)) (n : ℕ) → drop n x.now ≡ beyond o a.now b.now → onward x.ref_ptr n ≡ placed o a b
-      → (g : GName) → Continues a b (record { ref_ptr = (x.ref_ptr.0, n + x.ref_ptr.1); ghost_name = g; now = take (length x.now - n) (drop n x.now) })
-  part_is x n eb ep g =
+module _ (a b : Bor (List ℕ)) (o : Order) (eo : order_of a.now b.now ≡ o) where
+  pub part_is : (x : Bor (List ℕ)) (n : ℕ) → drop n x.now ≡ beyond o a.now b.now → onward x.ref_ptr n ≡ placed o a b
+      → Continues a b (record { ref_ptr = (x.ref_ptr.0, n + x.ref_ptr.1); now = take (length x.now - n) (drop n x.now) })
+  part_is x n eb ep =
       record {
         bytes = tail_is n x.now ∙ eb ∙ continued_is a.now b.now o eo;
         place = ap (λ (k : ℕ). (x.ref_ptr.0, k)) (add_comm n x.ref_ptr.1) ∙ ep ∙ ap (λ (p : Order). placed p a b) (sym eo);

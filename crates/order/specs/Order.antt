@@ -29,8 +29,8 @@ abbrev pub onward : ℕ × ℕ → ℕ → ℕ × ℕ
 onward p n = (p.0, p.1 + n)
 
 abbrev pub placed : Order → Bor (List ℕ) → Bor (List ℕ) → ℕ × ℕ
-placed FirstLonger a b = onward a.ptr (length b.now)
-placed SecondLonger a b = onward b.ptr (length a.now)
+placed FirstLonger a b = onward a.ref_ptr (length b.now)
+placed SecondLonger a b = onward b.ref_ptr (length a.now)
 placed Equal a b = onward b.ref_ptr (length b.now)
 placed Neither a b = onward b.ref_ptr (length b.now)
 

@@ -10,7 +10,7 @@ use lib.Count.{ones, ones_step, count_trailing_zeros, trailing_le, under}
 use lib.Dec.{eqb, ltb}
 use lib.Pow.{pow-lt, pow_mono, pow_pos}
 use Rattle.parties.specs.Sets.{bit, member, count_from, count, lowest_from, lowest, within, only, all, join, same_set, make_up}
-use Rattle.parties.specs.SetLaws.{bit_high, member_join, member_only, same_set}
+use Rattle.parties.specs.SetLaws.{bit_high, member_join, member_only, same_set_lem}
 use Rattle.parties.specs.declared.sets.PartySet.{PartySet}
 
 half_of : (n i : ℕ) → n / 2 ^ i / 2 ≡ n / 2 ^ suc i
@@ -88,7 +88,7 @@ none_made a q m h l = go (same_set m (join (only a) q)) refl
     go false e = refl
     go true e =
         let j : member a (join (only a) q) ≡ true = member_join a (only a) q ∙ rw (member_only a a, eq-eqb a a refl) in
-        none_above a m h l ∙ ap (λ (s : PartySet). member a s) (same_set m (join (only a) q) e) ∙ j
+        none_above a m h l ∙ ap (λ (s : PartySet). member a s) (same_set_lem m (join (only a) q) e) ∙ j
 
 -- the ones below bit n
 pub record Ones (n b : ℕ) : Type 0 where

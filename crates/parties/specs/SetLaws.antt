@@ -131,9 +131,9 @@ unfolding is_empty member
 some_member s h = some_bit s.bits h
 
 -- sets that test the same are the same
-pub same_set : (s t : PartySet) → same_set s t ≡ true → s ≡ t
+pub same_set_lem : (s t : PartySet) → same_set s t ≡ true → s ≡ t
 unfolding same_set
-same_set s t e = ap (λ (b : ℕ). record { bits = b }) (eqb-true s.bits t.bits e)
+same_set_lem s t e = ap (λ (b : ℕ). record { bits = b }) (eqb-true s.bits t.bits e)
 
 pub same_self : (s : PartySet) → same_set s s ≡ true
 unfolding same_set

@@ -63,9 +63,9 @@ module _ (i n : ℕ) {m : MadeParty} (e : m ≡ party_of i n) (h : n ≤ max_par
       ∙ both_limits i n max_parties h
 
 -- a kind's rule tests what its node has to fit
-pub rule_fits : (k : ℕ) (b : List ℕ) (n own : ℕ) → rule_fits (rule_of k) b n own ≡ fits n own (node_of k b)
+pub rule_fits_lem : (k : ℕ) (b : List ℕ) (n own : ℕ) → rule_fits (rule_of k) b n own ≡ fits n own (node_of k b)
 unfolding rule_fits rule_of fits node_of
-rule_fits k b n own =
+rule_fits_lem k b n own =
     every (λ (j : ℕ). rule_fits (rule_of j) b n own ≡ fits n own (node_of j b)) 14
     (refl, (refl, (refl, (refl, (refl, (refl, (refl, (refl, (refl, (refl, (refl, (refl, (refl, (refl, tt))))))))))))))
     (λ m. refl)

@@ -18,7 +18,7 @@ use Rattle.program.specs.declared.kinds.Body.{Body}
 use Rattle.program.specs.declared.kinds.Body.TheVariants as Body'
 use Rattle.program.specs.declared.check.Found.TheVariants as Found'
 use Rattle.nodes.specs.RangeLaws.{every}
-use Rattle.program.proofs.FieldLaws.{rule_fits}
+use Rattle.program.proofs.FieldLaws.{rule_fits_lem}
 use Rattle.nodes.proofs.ReadLaws.{number_drop}
 
 -- ---- the kind
@@ -72,7 +72,7 @@ module _ (p : List ℕ) (n own at : ℕ) where
         fields : fits n own (node_of (get_or p at 0) (drop (at + 1) p)) ≡ f
         fields =
             let k = known (get_or p at 0) l r e in
-            sym (rule_fits (get_or p at 0) (drop (at + 1) p) n own) ∙ ap (λ (s : Rule). rule_fits s (drop (at + 1) p) n own) k.rule ∙ sym g
+            sym (rule_fits_lem (get_or p at 0) (drop (at + 1) p) n own) ∙ ap (λ (s : Rule). rule_fits s (drop (at + 1) p) n own) k.rule ∙ sym g
 
         pub found_misfit : f ≡ false → Found'.Bad ≡ found_at p n own at
         unfolding found_at is_good

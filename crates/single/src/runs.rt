@@ -42,7 +42,7 @@ fn run_on(
     work: &mut [u8],
 ) -> Answer
     requires { (n ≤ max_parties) × (n * room ≤ length bytes.old) × (n ≤ length lengths.old) × (start.depth.frames ≤ max_frames) × (length work.old ≡ row_size) × (max_parties ≤ length at.old) × (max_parties ≤ length end.now) × (nodes ≤ 1024) }
-    ensures { RunsOn program.now nodes room n inputs.now end.now budget start result (record { bytes = bytes.now; lengths = lengths.old; work = work.old; at = at.old }) bytes.exit.now lengths.new }
+    ensures { RunsOn program.now nodes room n inputs.now end.now budget start result (record { bytes = bytes.old; lengths = lengths.old; work = work.old; at = at.old }) bytes.new lengths.new }
 {
     let mut t = start;
     let mut k: u32 = 0;

@@ -165,7 +165,7 @@ pub fn step(
     work: &mut [u8],
 ) -> Stride
     requires { (1 ≤ most) × (n ≤ max_parties) × (n * room ≤ length bytes.old) × (n ≤ length lengths.old) × (t.depth.frames ≤ max_frames) × (length work.old ≡ row_size) × (max_parties ≤ length at.old) × (max_parties ≤ length end.now) × (nodes ≤ 1024) }
-    ensures { Strides program.now nodes room n inputs.now end.now most t result (record { bytes = bytes.now; lengths = lengths.old; work = work.old; at = at.old }) (record { bytes = bytes.exit.now; lengths = lengths.new; work = work.new; at = at.new }) }
+    ensures { Strides program.now nodes room n inputs.now end.now most t result (record { bytes = bytes.old; lengths = lengths.old; work = work.old; at = at.old }) (record { bytes = bytes.new; lengths = lengths.new; work = work.new; at = at.new }) }
 {
     let gone = far(program, nodes, t, most, work);
     let moves = gone.moves;

@@ -61,7 +61,7 @@ pub extern "C" fn threadmolar_walk(
     holders: &mut u16,
     node: &mut u16,
 ) -> u32
-    ensures { Walks (step_answer bytes.now at) result next.old (record { kind = kind.now; detail = detail.old; integer = integer.old; set = set.old; holders = holders.old; node = node.old }) next.new (record { kind = kind.exit.now; detail = detail.new; integer = integer.new; set = set.new; holders = holders.new; node = node.new }) }
+    ensures { Walks (step_answer bytes.now at) result next.old (record { kind = kind.old; detail = detail.old; integer = integer.old; set = set.old; holders = holders.old; node = node.old }) next.new (record { kind = kind.new; detail = detail.new; integer = integer.new; set = set.new; holders = holders.new; node = node.new }) }
 {
     let here = Cursor { at };
     match here.step(bytes) {

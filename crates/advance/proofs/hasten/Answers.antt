@@ -22,4 +22,4 @@ unfolding joint_node
 returns-in-REVEAL c = let a = c.args in hastens_at a.node _ a.t Haste'.Joins a.w.now a.w.now c.in-REVEAL.is (tt, refl)
 
 pub returns-in_default : goal.returns-in_default
-returns-in_default c = (no_meeting c.args.node c.in_default.keys5, refl)
+returns-in_default c = (no_meeting c.args.node c.in_default.in_default-own.keys5, refl)

@@ -21,10 +21,8 @@ returns-in_default c = let a = c.args in
 
 pub returns-then-i-eq0 : goal.returns-then-i-eq0
 returns-then-i-eq0 c = let a = c.args in
-    let i = c.i-1.given in
-    (rw (is_zero i.0.0 (record { sfits = omega arith }) c.if-i-eq0.true)) ∙ clear_is (held a.m a.x) (branch a.e1 a.e2) _ (sym c.clear_at.ensures ∙ i.1)
+    (rw (is_zero c.in-Is.i (record { sfits = omega arith }) c.if-i-eq0.true)) ∙ clear_is (held a.m a.x) (branch a.e1 a.e2) _ (sym c.clear_at.ensures ∙ c.in-Is.is)
 
 pub returns-else-i-eq0 : goal.returns-else-i-eq0
 returns-else-i-eq0 c = let a = c.args in
-    let i = c.i-1.given in
-    (rw (not_zero i.0.0 c.if-i-eq0.false)) ∙ clear_is (held a.m a.x) (branch a.e1 a.e2) _ (sym c.clear_at.ensures ∙ i.1)
+    (rw (not_zero c.in-Is.i c.if-i-eq0.false)) ∙ clear_is (held a.m a.x) (branch a.e1 a.e2) _ (sym c.clear_at.ensures ∙ c.in-Is.is)

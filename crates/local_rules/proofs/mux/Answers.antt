@@ -15,14 +15,11 @@ pub returns-in_default-held-2 : goal.returns-in_default-held-2
 returns-in_default-held-2 c = rw (sym c.held.ensures ∙ c.in-Number.is, sym c.held-2.ensures ∙ c.in-Number-held.is, sym c.held-3.ensures ∙ c.in_default-held-2.is)
 
 pub returns-then-s-u : goal.returns-then-s-u
-returns-then-s-u c = let s = c.s-1.given in
-    let t = c.t-1.given in
-    let u = c.u-1.given in
-    let i = s.0.1.0 in
-    let j = t.0.1.0 in
-    let k = u.0.1.0 in
+returns-then-s-u c = let i = c.in-Number.i in
+    let j = c.in-Number-held.j in
+    let k = c.in-Number-held-2.k in
     let n = simp (read32 i (record { sfits = omega arith }), read32 j (record { sfits = omega arith }), read32 k (record { sfits = omega arith })) at c.chosen-n.ensures in
-    rw (sym c.held.ensures ∙ s.1, sym c.held-2.ensures ∙ t.1, sym c.held-3.ensures ∙ u.1, c.if-s-t.true, c.if-s-u.true) (handed_number _ _ _ c.chosen-n.result _ (record { sfits = c.chosen-n.type_inv }) n c.had_by.ensures)
+    rw (sym c.held.ensures ∙ c.in-Number.is, sym c.held-2.ensures ∙ c.in-Number-held.is, sym c.held-3.ensures ∙ c.in-Number-held-2.is, c.if-s-t.true, c.if-s-u.true) (handed_number _ _ _ c.chosen-n.result _ (record { sfits = c.chosen-n.type_inv }) n c.had_by.ensures)
 
 pub returns-else-s-u : goal.returns-else-s-u
 returns-else-s-u c = rw (sym c.held.ensures ∙ c.in-Number.is, sym c.held-2.ensures ∙ c.in-Number-held.is, sym c.held-3.ensures ∙ c.in-Number-held-2.is, c.if-s-t.true, c.if-s-u.false)

@@ -20,4 +20,4 @@ unfolding operation_of
 returns-in-3 c = rw c.in-3.is
 
 pub returns-in_default : goal.returns-in_default
-returns-in_default c = other_operation c.in_default.rest
+returns-in_default c = other_operation c.in_default.in_default-own.rest

@@ -5,7 +5,7 @@ use Rattle.words.proofs.SpellLaws.{number_join, number_spells}
 use Rattle.nodes.proofs.window.Goals as goal
 
 pub returns-then-at-p : goal.returns-then-at-p
-returns c j h = c.load8.ensures j (omega arith)
+returns-then-at-p c j h = c.load8.ensures j (omega arith)
 
 pub returns : goal.returns
 returns c =

@@ -18,13 +18,13 @@ pub slice_bounds-result-start-in-SecondLonger : goal.slice_bounds-result-start-i
 slice_bounds-result-start-in-SecondLonger c = second_le _ _ (sym c.order_of.ensures ∙ c.in-SecondLonger.is)
 
 pub returns-in-FirstLonger : goal.returns-in-FirstLonger
-returns-in-FirstLonger c = part_is _ _ FirstLonger (sym c.order_of.ensures ∙ c.in-FirstLonger.is) c.args.a (length c.args.b.now) refl refl _
+returns-in-FirstLonger c = part_is _ _ FirstLonger (sym c.order_of.ensures ∙ c.in-FirstLonger.is) c.args.a (length c.args.b.now) refl refl
 
 pub returns-in-SecondLonger : goal.returns-in-SecondLonger
-returns-in-SecondLonger c = part_is _ _ SecondLonger (sym c.order_of.ensures ∙ c.in-SecondLonger.is) c.args.b (length c.args.a.now) refl refl _
+returns-in-SecondLonger c = part_is _ _ SecondLonger (sym c.order_of.ensures ∙ c.in-SecondLonger.is) c.args.b (length c.args.a.now) refl refl
 
 pub returns-in-Equal : goal.returns-in-Equal
-returns-in-Equal c = part_is _ _ Equal (sym c.order_of.ensures ∙ c.in-Equal.is) c.args.b (length c.args.b.now) refl refl _
+returns-in-Equal c = part_is _ _ Equal (sym c.order_of.ensures ∙ c.in-Equal.is) c.args.b (length c.args.b.now) refl refl
 
 pub returns-in-Neither : goal.returns-in-Neither
-returns-in-Neither c = part_is _ _ Neither (sym c.order_of.ensures ∙ c.in-Neither.is) c.args.b (length c.args.b.now) refl refl _
+returns-in-Neither c = part_is _ _ Neither (sym c.order_of.ensures ∙ c.in-Neither.is) c.args.b (length c.args.b.now) refl refl

@@ -23,8 +23,7 @@ returns-in-Reads c = rw c.in-Reads.is c.read.ensures
 pub returns-in-Writes : goal.returns-in-Writes
 returns-in-Writes c =
     let a = c.args in
-    let i = c.effect-in-Writes-1.given in
-    rw (i.1, read32 i.0.0 (record { sfits = omega arith })) (writes a.inputs.now a.end.now a.at.now a.m i.0.0)
+    rw (c.in-Writes.is, read32 c.in-Writes.i (record { sfits = omega arith })) (writes a.inputs.now a.end.now a.at.now a.m c.in-Writes.i)
 
 pub returns-in-Empty : goal.returns-in-Empty
 returns-in-Empty c =
@@ -34,5 +33,4 @@ returns-in-Empty c =
 pub returns-in-Secret : goal.returns-in-Secret
 returns-in-Secret c =
     let a = c.args in
-    let i = c.offer-1.given in
-    rw (c.in-Meets.is, i.1, c.event_of.ensures, c.handed.ensures, read32 i.0.0 (record { sfits = omega arith })) (meets a.inputs.now a.end.now a.at.now a.m _ i.0.0 _)
+    rw (c.in-Meets.is, c.in-Secret.is, c.event_of.ensures, c.handed.ensures, read32 c.in-Secret.i (record { sfits = omega arith })) (meets a.inputs.now a.end.now a.at.now a.m _ c.in-Secret.i _)

@@ -33,5 +33,4 @@ bounds-at-p-2 c = omega (arith, (lowest_one _ c.requires.2).1, c.lowest-p.ensure
 pub returns : goal.returns
 returns c =
     let a = c.args in
-    let i = c.i-1.given in
-    rw (read32 i.0.0 (record { sfits = omega arith })) (read_some a.inputs.now a.end.now a.at.now a.m c.requires.2 _ c.lowest-p.ensures i.0.0 c.requires.0 (sym c.next_input.ensures ∙ i.1))
+    rw (read32 c.in-Input.i (record { sfits = omega arith })) (read_some a.inputs.now a.end.now a.at.now a.m c.requires.2 _ c.lowest-p.ensures c.in-Input.i c.requires.0 (sym c.next_input.ensures ∙ c.in-Input.is))

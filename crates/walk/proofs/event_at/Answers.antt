@@ -52,7 +52,7 @@ returns-in-4 c = rw c.in-4.is c.opened_at.ensures
 
 pub returns-in-5 : goal.returns-in-5
 unfolding event_from
-returns-in-5 c = rw (c.Load-set.ensures, c.in-5.is) (simp (number_dropped, add-zero))
+returns-in-5 c = rw (c.load_set.ensures, c.in-5.is) (simp (number_dropped, add-zero))
 
 pub returns-in-6 : goal.returns-in-6
 returns-in-6 c = rw c.in-6.is c.finished_at.ensures

@@ -8,4 +8,4 @@ use Rattle.walk.proofs.finished_at.Goals as goal
 
 pub returns : goal.returns
 unfolding event_from
-returns c = rw (read32 _ (record { sfits = c.load_integer-i.type_inv }), c.load_integer-i.ensures, c.before.Load-set.ensures, c.load_set-h.ensures) (simp (get_or-drop, number_dropped, add-zero))
+returns c = rw (read32 _ (record { sfits = c.load_integer-i.type_inv }), c.load_integer-i.ensures, c.load_set-l.ensures, c.load_set-h.ensures) (simp (get_or-drop, number_dropped, add-zero))

@@ -7,4 +7,4 @@ use Rattle.walk.proofs.opened_at.Goals as goal
 
 pub returns : goal.returns
 unfolding event_from
-returns c = rw (read32 _ (record { sfits = c.load_integer-i.type_inv }), c.before.Load-set.ensures, c.load_integer-i.ensures) (simp (number_dropped, add-zero))
+returns c = rw (read32 _ (record { sfits = c.load_integer-i.type_inv }), c.load_set-q.ensures, c.load_integer-i.ensures) (simp (number_dropped, add-zero))

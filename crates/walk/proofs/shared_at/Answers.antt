@@ -7,4 +7,4 @@ use Rattle.walk.proofs.shared_at.Goals as goal
 
 pub returns : goal.returns
 unfolding event_from
-returns c = rw c.Load-set.ensures (simp (get_or-drop, number_dropped, add-zero))
+returns c = rw c.load_set-q.ensures (simp (get_or-drop, number_dropped, add-zero))

@@ -8,4 +8,4 @@ returns-then-depth-eq0 c = let a = c.args in ended a.v a.depth.frames a.w.now c.
 
 pub returns : goal.returns
 returns c = let a = c.args in
-    handed a.v a.depth.frames c.level_at-at.result c.load2-body.result c.before.before.before.before.Load-set.result a.w.now _ (omega arith) c.requires.0 c.level_at-at.ensures c.load2-body.ensures c.before.before.before.before.Load-set.ensures c.bind.ensures
+    handed a.v a.depth.frames c.level_at-at.result c.load2-body.result c.load_set-mode.result a.w.now _ (omega arith) c.requires.0 c.level_at-at.ensures c.load2-body.ensures c.load_set-mode.ensures c.bind.ensures

@@ -13,10 +13,10 @@ pub store2-requires : goal.store2-requires
 store2-requires c = simp length-set (omega arith)
 
 pub store_set-requires : goal.store_set-requires
-store_set-requires c = simp (c.store2.auto.0, length-set) (omega arith)
+store_set-requires c = simp (c.store2.auto.s, length-set) (omega arith)
 
 pub copy_within-requires : goal.copy_within-requires
-copy_within-requires c = simp (c.store_set.auto.0, c.store2.auto.0, length-set) (omega arith, omega arith, inl (omega arith))
+copy_within-requires c = simp (c.store_set.auto.s, c.store2.auto.s, length-set) (omega arith, omega arith, inl (omega arith))
 
 pub returns : goal.returns
 returns c = let a = c.args in

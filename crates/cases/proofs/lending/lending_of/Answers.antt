@@ -8,4 +8,4 @@ overflow_cast-head c = omega (arith, c.shared_slice_known-2-1.given 4)
 
 pub returns : goal.returns
 unfolding lending_of
-returns c = rw (c.up_to-4.ensures, c.load4-3.ensures, c.up_to-3.ensures, c.load4-2.ensures, c.up_to-2.ensures, c.before.before.before.before.before.before.up_to_lem.ensures, c.load4.ensures)
+returns c = rw (c.up_to-4.ensures, c.load4-3.ensures, c.up_to-3.ensures, c.load4-2.ensures, c.up_to-2.ensures, c.up_to.ensures, c.load4.ensures)

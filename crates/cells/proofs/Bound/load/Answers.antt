@@ -14,8 +14,8 @@ returns-then-sort-eq1 c = rw c.if-sort-eq1.true
 
 pub returns-then-sort-eq2 : goal.returns-then-sort-eq2
 unfolding cell_at
-returns-then-sort-eq2 c = rw (read32 _ (record { sfits = c.load_integer-i.type_inv }), c.if-sort-eq2.true, c.load_integer-i.ensures, c.before.Load-set.ensures)
+returns-then-sort-eq2 c = rw (read32 _ (record { sfits = c.load_integer-i.type_inv }), c.if-sort-eq2.true, c.load_integer-i.ensures, c.load_set-l.ensures)
 
 pub returns : goal.returns
 unfolding cell_at
-returns c = rw (read32 _ (record { sfits = c.load_integer-i.type_inv }), ne_eqb _ _ c.if-sort-eq0.false, ne_eqb _ _ c.if-sort-eq1.false, ne_eqb _ _ c.if-sort-eq2.false, c.load_integer-i.ensures, c.before.before.Load-set.ensures, c.load_set-h.ensures)
+returns c = rw (read32 _ (record { sfits = c.load_integer-i.type_inv }), ne_eqb _ _ c.if-sort-eq0.false, ne_eqb _ _ c.if-sort-eq1.false, ne_eqb _ _ c.if-sort-eq2.false, c.load_integer-i.ensures, c.load_set-l.ensures, c.load_set-h.ensures)

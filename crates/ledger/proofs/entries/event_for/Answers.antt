@@ -23,4 +23,4 @@ pub returns-else-has : goal.returns-else-has
 returns-else-has c = reveals _ _ _ _ false c.in-Opened.is (sym c.if-has.false ∙ c.has.ensures)
 
 pub returns-in_default : goal.returns-in_default
-returns-in_default c = other_is _ _ _ c.in_default.keys2 ∙ for_party _ _
+returns-in_default c = other_is _ _ _ c.in_default.in_default-own.keys2 ∙ for_party _ _

@@ -6,19 +6,19 @@ use lib.ListN.{length, get_or}
 use Rattle.records.specs.Events.{event_bytes}
 use Rattle.ledger.proofs.WriteLaws.{area_length, wrote}
 use Rattle.ledger.proofs.entries.note_one.Goals as goal
-use Rattle.ledger.proofs.entries.note_one.Tie as tie
-
--- the room that it has
-fits : (c : tie.After-chosen-ev) → get_or c.args.lengths.now c.args.p 0 + length (event_bytes c.chosen-ev.result) ≤ c.args.room
-fits c = rw c.chosen-ev.ensures c.requires.2
 
 pub store-requires : goal.store-requires
-store-requires c = rw (area_length _ _ _ c.requires.0) (fits c.before)
+store-requires c =
+    let fits : (get_or c.args.lengths.now c.args.p 0 + length (event_bytes c.chosen-ev.result) ≤ c.args.room) = rw c.chosen-ev.ensures c.requires.2 in
+    rw (area_length _ _ _ c.requires.0) fits
 
 pub overflow_add-lengths : goal.overflow_add-lengths
-overflow_add-lengths c = omega (arith, c.size.ensures, fits c.before.before.before.before.before)
+overflow_add-lengths c =
+    let fits : (get_or c.args.lengths.now c.args.p 0 + length (event_bytes c.chosen-ev.result) ≤ c.args.room) = rw c.chosen-ev.ensures c.requires.2 in
+    omega (arith, c.size.ensures, fits)
 
 pub returns : goal.returns
 returns c =
+    let fits : (get_or c.args.lengths.now c.args.p 0 + length (event_bytes c.chosen-ev.result) ≤ c.args.room) = rw c.chosen-ev.ensures c.requires.2 in
     let a = c.args in
-    wrote a.room a.p a.bytes.now a.lengths.now c.store.new.1.0 c.requires.0 _ (event_bytes c.chosen-ev.result) _ (sym (ap event_bytes c.chosen-ev.ensures)) c.store.ensures (fits c.before.before.before.before.before) (omega (arith, c.size.ensures))
+    wrote a.room a.p a.bytes.now a.lengths.now c.store.new.1.0 c.requires.0 _ (event_bytes c.chosen-ev.result) _ (sym (ap event_bytes c.chosen-ev.ensures)) c.store.ensures fits (omega (arith, c.size.ensures))

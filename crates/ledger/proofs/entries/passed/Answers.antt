@@ -6,4 +6,4 @@ pub returns-in-Opened : goal.returns-in-Opened
 returns-in-Opened c = reveal_is _ _ _ _ _ c.in-Opened.is
 
 pub returns-in_default : goal.returns-in_default
-returns-in_default c = other_is _ _ _ c.in_default.keys2
+returns-in_default c = other_is _ _ _ c.in_default.in_default-own.keys2

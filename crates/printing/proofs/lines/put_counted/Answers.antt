@@ -7,8 +7,7 @@ use Rattle.printing.proofs.lines.put_counted.Goals as goal
 
 pub put_records-requires : goal.put_records-requires
 put_records-requires c =
-    let s = c.before.before.before.before.before.before.before.before.before in
-    (s.requires.0, room_after c.put_one-end.ensures (omega (arith, one_short s.args.word.now s.args.count, s.requires.1)) s.requires.2)
+    (c.requires.0, room_after c.put_one-end.ensures (omega (arith, one_short c.args.word.now c.args.count, c.requires.1)) c.requires.2)
 
 pub returns : goal.returns
 returns c = puts_then c.put_one-end.ensures c.put_records.ensures

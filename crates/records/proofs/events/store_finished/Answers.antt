@@ -14,10 +14,10 @@ pub store_byte_and_integer-requires : goal.store_byte_and_integer-requires
 store_byte_and_integer-requires c = simp length-set (omega arith)
 
 pub store_set-requires : goal.store_set-requires
-store_set-requires c = simp (c.store_byte_and_integer.auto.0, length-set) (omega arith)
+store_set-requires c = simp (c.store_byte_and_integer.auto.s, length-set) (omega arith)
 
 pub store_set-requires-2 : goal.store_set-requires-2
-store_set-requires-2 c = simp (c.store_set.auto.0, c.store_byte_and_integer.auto.0, length-set) (omega arith)
+store_set-requires-2 c = simp (c.store_set.auto.s, c.store_byte_and_integer.auto.s, length-set) (omega arith)
 
 pub returns : goal.returns
 unfolding event_bytes low_first

@@ -10,4 +10,4 @@ fits-requires c = omega (arith, event_short c.args.self, c.size.ensures)
 
 pub returns : goal.returns
 unfolding has_room
-returns c = let a = c.args in c.fits2.ensures ∙ ap (fits_after a.room a.used) c.size.ensures
+returns c = let a = c.args in c.fits.ensures ∙ ap (fits_after a.room a.used) c.size.ensures
