@@ -1,4 +1,5 @@
 -- `advance::hasten` meets its contract. Assumes nothing.
+use borrow.Enum.Refused.{opened}
 use mathlib.Core.Path.{refl}
 use Rattle.nodes.specs.Nodes.{joint_node}
 use Rattle.area.specs.Levels.{names_at}
@@ -22,4 +23,4 @@ unfolding joint_node
 returns-in-REVEAL c = let a = c.args in hastens_at a.node _ a.t Haste'.Joins a.w.now a.w.now c.in-REVEAL.is (tt, refl)
 
 pub returns-in_default : goal.returns-in_default
-returns-in_default c = (no_meeting c.args.node c.in_default.in_default-own.keys5, refl)
+returns-in_default c = (no_meeting c.args.node (opened c.in_default.in_default-own.keys5), refl)

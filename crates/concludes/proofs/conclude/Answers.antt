@@ -1,4 +1,5 @@
 -- `concludes::conclude` meets its contract. Assumes nothing.
+use mathlib.Core.Bool.{not}
 use mathlib.Core.Path.{◌≡◌, refl, ap, ◌∙◌}
 use native.Mathlib.Omega.{arith}
 use Rattle.parties.specs.Sets.{meet, all}
@@ -16,7 +17,7 @@ pub conclude_one-requires : goal.conclude_one-requires
 conclude_one-requires c =
     let members : (c.meet-left.result ≡ meet c.args.m (all c.args.n)) = c.meet-left.ensures ∙ ap (meet c.args.m) c.all.ensures in
     let here : (let a = c.args in let s = c.meet-left.result in let l = c.loop-outcome in
-    Here s a.n (Going a.outcome s a.n a.room a.bytes.now a.lengths.now a.work.now l.bytes l.lengths l.work) l.left c.lowest-p.result) = left_here _ _ (omega arith) c.loop-outcome.invariant.3 c.is_empty.ensures (rw members (below_within _ _)) c.loop-outcome-test.true c.lowest-p.ensures in
+    Here s a.n (Going a.outcome s a.n a.room a.bytes.now a.lengths.now a.work.now l.bytes l.lengths l.work) l.left c.lowest-p.result) = left_here _ _ (omega arith) c.loop-outcome.invariant.3 c.is_empty.ensures (rw members (below_within _ _)) (ap not c.loop-outcome-test.true) c.lowest-p.ensures in
     let a = c.args in
     let l = c.loop-outcome in
     let below = here.below in (
@@ -29,14 +30,14 @@ pub loop-outcome-smaller : goal.loop-outcome-smaller
 loop-outcome-smaller c =
     let members : (c.meet-left.result ≡ meet c.args.m (all c.args.n)) = c.meet-left.ensures ∙ ap (meet c.args.m) c.all.ensures in
     let here : (let a = c.args in let s = c.meet-left.result in let l = c.loop-outcome in
-    Here s a.n (Going a.outcome s a.n a.room a.bytes.now a.lengths.now a.work.now l.bytes l.lengths l.work) l.left c.lowest-p.result) = left_here _ _ (omega arith) c.loop-outcome.invariant.3 c.is_empty.ensures (rw members (below_within _ _)) c.loop-outcome-test.true c.lowest-p.ensures in
+    Here s a.n (Going a.outcome s a.n a.room a.bytes.now a.lengths.now a.work.now l.bytes l.lengths l.work) l.left c.lowest-p.result) = left_here _ _ (omega arith) c.loop-outcome.invariant.3 c.is_empty.ensures (rw members (below_within _ _)) (ap not c.loop-outcome-test.true) c.lowest-p.ensures in
     left_falls _ _ here c.rest-left.ensures
 
 pub loop-outcome-preserved : goal.loop-outcome-preserved
 loop-outcome-preserved c =
     let members : (c.meet-left.result ≡ meet c.args.m (all c.args.n)) = c.meet-left.ensures ∙ ap (meet c.args.m) c.all.ensures in
     let here : (let a = c.args in let s = c.meet-left.result in let l = c.loop-outcome in
-    Here s a.n (Going a.outcome s a.n a.room a.bytes.now a.lengths.now a.work.now l.bytes l.lengths l.work) l.left c.lowest-p.result) = left_here _ _ (omega arith) c.loop-outcome.invariant.3 c.is_empty.ensures (rw members (below_within _ _)) c.loop-outcome-test.true c.lowest-p.ensures in
+    Here s a.n (Going a.outcome s a.n a.room a.bytes.now a.lengths.now a.work.now l.bytes l.lengths l.work) l.left c.lowest-p.result) = left_here _ _ (omega arith) c.loop-outcome.invariant.3 c.is_empty.ensures (rw members (below_within _ _)) (ap not c.loop-outcome-test.true) c.lowest-p.ensures in
     let at_p = here in
     let l = c.loop-outcome in
     let one = c.conclude_one in (
@@ -49,4 +50,4 @@ loop-outcome-preserved c =
 pub returns : goal.returns
 returns c =
     let members : (c.meet-left.result ≡ meet c.args.m (all c.args.n)) = c.meet-left.ensures ∙ ap (meet c.args.m) c.all.ensures in
-    going_all _ members (left_over _ _ (omega arith) c.loop-outcome.invariant.3 c.is_empty.ensures c.loop-outcome-test.false)
+    going_all _ members (left_over _ _ (omega arith) c.loop-outcome.invariant.3 c.is_empty.ensures (ap not c.loop-outcome-test.false))

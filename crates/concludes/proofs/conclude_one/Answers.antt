@@ -1,4 +1,5 @@
 -- `concludes::conclude_one` meets its contract. Assumes nothing.
+use borrow.Enum.Refused.{opened}
 use mathlib.Core.Path.{sym, ◌∙◌, subst}
 use native.Mathlib.Omega.{arith}
 use Rattle.area.specs.Rows.{row_size, area_of}
@@ -10,7 +11,7 @@ use Rattle.concludes.proofs.conclude_one.Goals as goal
 
 pub returns-in_default : goal.returns-in_default
 returns-in_default c = let a = c.args in
-    member_over a.outcome a.p a.room a.bytes.now a.lengths.now a.work.now c.load_seat.result c.load_seat.ensures c.in_default.in_default-own.keys2
+    member_over a.outcome a.p a.room a.bytes.now a.lengths.now a.work.now c.load_seat.result c.load_seat.ensures (opened c.in_default.in_default-own.keys2)
 
 pub take_part-requires : goal.take_part-requires
 take_part-requires c = let a = c.args in

@@ -8,10 +8,10 @@ pub store2-requires : goal.store2-requires
 store2-requires c = simp length-set (omega arith)
 
 pub store_set-requires : goal.store_set-requires
-store_set-requires c = simp (c.store2.auto.0, length-set) (omega arith)
+store_set-requires c = simp (c.store2.auto.s, length-set) (omega arith)
 
 pub bounds-w-12453 : goal.bounds-w-12453
-bounds-w-12453 c = simp (c.store_set.auto.0, c.store2.auto.0, length-set) (omega arith)
+bounds-w-12453 c = simp (c.store_set.auto.s, c.store2.auto.s, length-set) (omega arith)
 
 pub returns-in-Finished : goal.returns-in-Finished
 returns-in-Finished c = rw c.in-Finished.is (saved_finished c.args.w.now c.requires)

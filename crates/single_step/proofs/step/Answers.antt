@@ -1,4 +1,5 @@
 -- `single_step::step` meets its contract. Assumes nothing.
+use borrow.Enum.Refused.{opened}
 use mathlib.Core.Path.{refl, sym, subst}
 use native.Mathlib.Omega.{arith}
 use Rattle.rules.specs.declared.effects.View.TheVariants.{Whole}
@@ -22,7 +23,7 @@ pub entry_of-entry-requires : goal.entry_of-entry-requires
 entry_of-entry-requires c = let p = c.requires in
     let f = c.far-gone in
     let m = f.result.stand.mode in
-    let r = c.effect_of-effect.ensures.asks f.ensures.1 f.ensures.3 (no_move f.result.came c.in_default.in_default-own.keys2) in
+    let r = c.effect_of-effect.ensures.asks f.ensures.1 f.ensures.3 (no_move f.result.came (opened c.in_default.in_default-own.keys2)) in
     (p.6, p.7, subst (λ (x : Effect). Sound m x) (sym r.0) (whole_sound m _ _), r.1)
 
 pub settled-came-requires : goal.settled-came-requires
@@ -35,7 +36,7 @@ pub returns-in_default : goal.returns-in_default
 returns-in_default c = let a = c.args in
     let f = c.far-gone.ensures in
     let u = c.far-gone.result.stand in
-    let r = c.effect_of-effect.ensures.asks f.1 f.3 (no_move c.far-gone.result.came c.in_default.in_default-own.keys2) in
+    let r = c.effect_of-effect.ensures.asks f.1 f.3 (no_move c.far-gone.result.came (opened c.in_default.in_default-own.keys2)) in
     let l : Lists = record { bytes = a.bytes.now; lengths = a.lengths.now; work = f.1; at = a.at.now } in
     (f.0, u, f.1, f.2, refl, steps_on a.program.now a.nodes a.room a.n a.inputs.now a.end.now u _ l _ _ r.0 (enters a.room a.n a.inputs.now a.end.now u _ l _ _ _ c.entry_of-entry.ensures (rw r.2 at c.settled-came.ensures)))
 

@@ -1,4 +1,5 @@
 -- `advance::strides::in_row` meets its contract. Assumes nothing.
+use borrow.Enum.Refused.{opened}
 use mathlib.Core.Path.{refl, sym, ◌∙◌, subst}
 use Rattle.seats.specs.Seats.{DeepSeat}
 use Rattle.advance.specs.declared.strides.Onward.TheVariants.{To, Not}
@@ -6,7 +7,7 @@ use Rattle.advance.proofs.StrideLaws.{seat_few, row_over, row_did}
 use Rattle.advance.proofs.strides.in_row.Goals as goal
 
 pub returns-in_default : goal.returns-in_default
-returns-in_default c = let a = c.args in row_over a.joint a.p a.program.now a.nodes a.t a.w.now c.seat_of.result c.seat_of.ensures c.in_default.in_default-own.keys2
+returns-in_default c = let a = c.args in row_over a.joint a.p a.program.now a.nodes a.t a.w.now c.seat_of.result c.seat_of.ensures (opened c.in_default.in_default-own.keys2)
 
 pub once-y-requires : goal.once-y-requires
 once-y-requires c = let a = c.args in

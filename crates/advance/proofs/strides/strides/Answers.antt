@@ -41,7 +41,7 @@ returns-in_default c =
       c.loop-next.t,
       c.loop-next.work,
       c.loop-next.invariant.3,
-      turn_last a.joint a.turns.now a.program.now a.nodes a.first c.loop-next.t c.loop-next.work c.loop-next.k c.whose-p.result c.whose-p.ensures c.in_row-came.result c.in_row-came.new.1.1.1.1.1.0 c.in_row-came.ensures (c.in_row-came.auto.1.1.1.1.1.0 ∙ lent),
+      turn_last a.joint a.turns.now a.program.now a.nodes a.first c.loop-next.t c.loop-next.work c.loop-next.k c.whose-p.result c.whose-p.ensures c.in_row-came.result c.in_row-came.new.w c.in_row-came.ensures (c.in_row-came.auto.w ∙ lent),
     )
 
 pub returns-then-k-last : goal.returns-then-k-last
@@ -54,7 +54,7 @@ returns-then-k-last c =
       c.loop-next.t,
       c.loop-next.work,
       c.loop-next.invariant.3,
-      turn_last a.joint a.turns.now a.program.now a.nodes a.first c.loop-next.t c.loop-next.work c.loop-next.k c.whose-p.result c.whose-p.ensures c.in_row-came.result c.in_row-came.new.1.1.1.1.1.0 c.in_row-came.ensures (c.in_row-came.auto.1.1.1.1.1.0 ∙ lent),
+      turn_last a.joint a.turns.now a.program.now a.nodes a.first c.loop-next.t c.loop-next.work c.loop-next.k c.whose-p.result c.whose-p.ensures c.in_row-came.result c.in_row-came.new.w c.in_row-came.ensures (c.in_row-came.auto.w ∙ lent),
     )
 
 pub overflow_add-k : goal.overflow_add-k
@@ -69,6 +69,6 @@ loop-next-preserved c =
     omega (arith, c.loop-next.invariant.2, turn_fits a.joint a.turns.now a.first a.most (length a.work.now) c.requires.4 c.requires.1 c.loop-next.k c.whose-p.result c.loop-next.invariant.0 c.whose-p.ensures) in
     let lent : (length (area_of c.whose-p.result c.loop-next.work) ≡ row_size) = row_length row_size c.whose-p.result c.loop-next.work fits in
     let a = c.args in
-    let on = turn_on a.joint a.turns.now a.program.now a.nodes a.first c.loop-next.t c.loop-next.work c.loop-next.k c.whose-p.result c.whose-p.ensures c.in_row-came.result c.in_row-came.new.1.1.1.1.1.0 c.in_row-came.ensures (c.in_row-came.auto.1.1.1.1.1.0 ∙ lent)
+    let on = turn_on a.joint a.turns.now a.program.now a.nodes a.first c.loop-next.t c.loop-next.work c.loop-next.k c.whose-p.result c.whose-p.ensures c.in_row-came.result c.in_row-came.new.w c.in_row-came.ensures (c.in_row-came.auto.w ∙ lent)
     a.start a.work.now c.loop-next.invariant.3 c.in-To.next (sym c.in-To.is ∙ c.leads.ensures) in
     (omega (arith, c.loop-next.invariant.0, c.if-k-last.false), on.0, c.work-1.given.1 ∙ c.loop-next.invariant.2, on.1)

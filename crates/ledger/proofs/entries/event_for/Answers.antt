@@ -1,4 +1,5 @@
 -- `ledger::entries::event_for` meets its contract. Assumes nothing.
+use borrow.Enum.Refused.{opened}
 use mathlib.Core.Path.{◌≡◌, sym, ◌∙◌}
 use mathlib.Core.Bool.{Bool, true, false, cond}
 use Prim.Native.Nat.{ℕ}
@@ -23,4 +24,4 @@ pub returns-else-has : goal.returns-else-has
 returns-else-has c = reveals _ _ _ _ false c.in-Opened.is (sym c.if-has.false ∙ c.has.ensures)
 
 pub returns-in_default : goal.returns-in_default
-returns-in_default c = other_is _ _ _ c.in_default.in_default-own.keys2 ∙ for_party _ _
+returns-in_default c = other_is _ _ _ (opened c.in_default.in_default-own.keys2) ∙ for_party _ _

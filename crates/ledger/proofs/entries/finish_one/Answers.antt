@@ -4,13 +4,7 @@ use Rattle.records.specs.Events.{finished}
 use Rattle.ledger.proofs.WriteLaws.{ended}
 use Rattle.ledger.proofs.entries.finish_one.Goals as goal
 
-pub offset_bounds-lengths-i-2 : goal.offset_bounds-lengths-i-2
-offset_bounds-lengths-i-2 c = mul-close c.before.before.before.before
-
-pub bounds-lengths-i-2 : goal.bounds-lengths-i-2
-bounds-lengths-i-2 c = slice-read-close c.before.before.before
-
 pub returns : goal.returns
 returns c = let a = c.args in
-    ended a.room a.p a.bytes.now a.lengths.now c.close.new.1.0 c.requires.0 a.v c.finished.result c.close.result
+    ended a.room a.p a.bytes.now a.lengths.now c.close.new.bytes c.requires.0 a.v c.finished.result c.close.result
     (c.finished.ensures ∙ ap finished c.slice-own.ensures) c.close.ensures

@@ -3,7 +3,7 @@ use mathlib.Core.Path.{◌∙◌}
 use Rattle.ledger.proofs.entries.may_note.Goals as goal
 
 pub returns-then-has : goal.returns-then-has
-returns-then-has c = c.fits2.ensures ∙ rw (← c.has.ensures, c.if-has.true)
+returns-then-has c = c.fits.ensures ∙ rw (← c.has.ensures, c.if-has.true)
 
 pub returns-else-has : goal.returns-else-has
-returns-else-has c = c.fits3.ensures ∙ rw (← c.has.ensures, c.if-has.false)
+returns-else-has c = c.fits-else-has.ensures ∙ rw (← c.has.ensures, c.if-has.false)

@@ -21,4 +21,4 @@ pub returns : goal.returns
 returns c =
     let fits : (get_or c.args.lengths.now c.args.p 0 + length (event_bytes c.chosen-ev.result) ≤ c.args.room) = rw c.chosen-ev.ensures c.requires.2 in
     let a = c.args in
-    wrote a.room a.p a.bytes.now a.lengths.now c.store.new.1.0 c.requires.0 _ (event_bytes c.chosen-ev.result) _ (sym (ap event_bytes c.chosen-ev.ensures)) c.store.ensures fits (omega (arith, c.size.ensures))
+    wrote a.room a.p a.bytes.now a.lengths.now c.store.new.s c.requires.0 _ (event_bytes c.chosen-ev.result) _ (sym (ap event_bytes c.chosen-ev.ensures)) c.store.ensures fits (omega (arith, c.size.ensures))

@@ -1,4 +1,5 @@
 -- `ledger::entries::room_for_all` meets its contract. Assumes nothing.
+use mathlib.Core.Bool.{not}
 use mathlib.Core.Path.{sym, ap, ◌∙◌}
 use native.Mathlib.Omega.{arith}
 use borrow.Author.Tests.{not-true, not-false}
@@ -17,7 +18,7 @@ pub bounds-lengths-p : goal.bounds-lengths-p
 bounds-lengths-p c =
     let worked-out : (let a = c.args in WorkedOut a.n a.m a.e c.meet-left.result c.writers-those.result c.passed.result) = record { members = c.meet-left.ensures ∙ ap (meet c.args.m) c.all.ensures; whole = c.writers-those.ensures; passing = c.passed.ensures } in
     let here : (let a = c.args in let s = c.meet-left.result in
-    Here s a.n (Fit a.room c.writers-those.result c.size-own.result c.size-other.result a.lengths.now s) c.loop-those.left c.lowest-p.result) = left_here _ _ (omega arith) c.loop-those.invariant c.is_empty.ensures (all_below worked-out) c.loop-those-test.true c.lowest-p.ensures in
+    Here s a.n (Fit a.room c.writers-those.result c.size-own.result c.size-other.result a.lengths.now s) c.loop-those.left c.lowest-p.result) = left_here _ _ (omega arith) c.loop-those.invariant c.is_empty.ensures (all_below worked-out) (ap not c.loop-those-test.true) c.lowest-p.ensures in
     omega (arith, here.below)
 
 pub may_note-requires : goal.may_note-requires
@@ -27,26 +28,26 @@ pub returns-then-not-may_note : goal.returns-then-not-may_note
 returns-then-not-may_note c =
     let worked-out : (let a = c.args in WorkedOut a.n a.m a.e c.meet-left.result c.writers-those.result c.passed.result) = record { members = c.meet-left.ensures ∙ ap (meet c.args.m) c.all.ensures; whole = c.writers-those.ensures; passing = c.passed.ensures } in
     let here : (let a = c.args in let s = c.meet-left.result in
-    Here s a.n (Fit a.room c.writers-those.result c.size-own.result c.size-other.result a.lengths.now s) c.loop-those.left c.lowest-p.result) = left_here _ _ (omega arith) c.loop-those.invariant c.is_empty.ensures (all_below worked-out) c.loop-those-test.true c.lowest-p.ensures in
+    Here s a.n (Fit a.room c.writers-those.result c.size-own.result c.size-other.result a.lengths.now s) c.loop-those.left c.lowest-p.result) = left_here _ _ (omega arith) c.loop-those.invariant c.is_empty.ensures (all_below worked-out) (ap not c.loop-those-test.true) c.lowest-p.ensures in
     let at_p = here in
-    rooms_lack worked-out _ _ _ _ c.size-own.ensures c.size-other.ensures _ at_p.below at_p.inside (sym c.may_note.ensures ∙ not-true _ c.if-not-may_note.true)
+    rooms_lack worked-out _ _ _ _ c.size-own.ensures c.size-other.ensures _ at_p.below at_p.inside (sym c.may_note.ensures ∙ not-true _ (ap not c.if-not-may_note.true))
 
 pub loop-those-smaller : goal.loop-those-smaller
 loop-those-smaller c =
     let worked-out : (let a = c.args in WorkedOut a.n a.m a.e c.meet-left.result c.writers-those.result c.passed.result) = record { members = c.meet-left.ensures ∙ ap (meet c.args.m) c.all.ensures; whole = c.writers-those.ensures; passing = c.passed.ensures } in
     let here : (let a = c.args in let s = c.meet-left.result in
-    Here s a.n (Fit a.room c.writers-those.result c.size-own.result c.size-other.result a.lengths.now s) c.loop-those.left c.lowest-p.result) = left_here _ _ (omega arith) c.loop-those.invariant c.is_empty.ensures (all_below worked-out) c.loop-those-test.true c.lowest-p.ensures in
+    Here s a.n (Fit a.room c.writers-those.result c.size-own.result c.size-other.result a.lengths.now s) c.loop-those.left c.lowest-p.result) = left_here _ _ (omega arith) c.loop-those.invariant c.is_empty.ensures (all_below worked-out) (ap not c.loop-those-test.true) c.lowest-p.ensures in
     left_falls _ _ here c.rest-left.ensures
 
 pub loop-those-preserved : goal.loop-those-preserved
 loop-those-preserved c =
     let worked-out : (let a = c.args in WorkedOut a.n a.m a.e c.meet-left.result c.writers-those.result c.passed.result) = record { members = c.meet-left.ensures ∙ ap (meet c.args.m) c.all.ensures; whole = c.writers-those.ensures; passing = c.passed.ensures } in
     let here : (let a = c.args in let s = c.meet-left.result in
-    Here s a.n (Fit a.room c.writers-those.result c.size-own.result c.size-other.result a.lengths.now s) c.loop-those.left c.lowest-p.result) = left_here _ _ (omega arith) c.loop-those.invariant c.is_empty.ensures (all_below worked-out) c.loop-those-test.true c.lowest-p.ensures in
+    Here s a.n (Fit a.room c.writers-those.result c.size-own.result c.size-other.result a.lengths.now s) c.loop-those.left c.lowest-p.result) = left_here _ _ (omega arith) c.loop-those.invariant c.is_empty.ensures (all_below worked-out) (ap not c.loop-those-test.true) c.lowest-p.ensures in
     let at_p = here in
-    left_next _ _ at_p c.rest-left.ensures (λ k h o a. all_more _ _ k a (rw o)) (all_more _ _ _ at_p.so_far (rw at_p.inside (sym c.may_note.ensures ∙ not-false _ c.if-not-may_note.false)))
+    left_next _ _ at_p c.rest-left.ensures (λ k h o a. all_more _ _ k a (rw o)) (all_more _ _ _ at_p.so_far (rw at_p.inside (sym c.may_note.ensures ∙ not-false _ (ap not c.if-not-may_note.false))))
 
 pub returns : goal.returns
 returns c =
     let worked-out : (let a = c.args in WorkedOut a.n a.m a.e c.meet-left.result c.writers-those.result c.passed.result) = record { members = c.meet-left.ensures ∙ ap (meet c.args.m) c.all.ensures; whole = c.writers-those.ensures; passing = c.passed.ensures } in
-    rooms_all worked-out _ _ _ _ c.size-own.ensures c.size-other.ensures (left_over _ _ (omega arith) c.loop-those.invariant c.is_empty.ensures c.loop-those-test.false)
+    rooms_all worked-out _ _ _ _ c.size-own.ensures c.size-other.ensures (left_over _ _ (omega arith) c.loop-those.invariant c.is_empty.ensures (ap not c.loop-those-test.false))

@@ -1,4 +1,5 @@
 -- `meets::present::all_agree` meets its contract. Assumes nothing.
+use mathlib.Core.Bool.{not}
 use mathlib.Core.Path.{◌≡◌, ap, ◌∙◌}
 use mathlib.Core.Bool.{true}
 use native.Mathlib.Omega.{arith}
@@ -19,13 +20,13 @@ loop-node-init c =
 pub member_agrees-requires : goal.member_agrees-requires
 member_agrees-requires c =
     let members : (c.meet-left.result ≡ meet c.args.m (all c.args.n)) = c.meet-left.ensures ∙ ap (meet c.args.m) c.all.ensures in
-    let here : (let a = c.args in Here c.meet-left.result a.n (Agreeing a.node a.e a.m a.n a.room a.lengths.now a.work.now (to_z w32 (of_z w32 a.number)) a.holders) c.loop-node.left c.lowest-p.result) = left_here _ _ (omega arith) c.loop-node.invariant c.is_empty.ensures (rw members (below_within _ _)) c.loop-node-test.true c.lowest-p.ensures in
+    let here : (let a = c.args in Here c.meet-left.result a.n (Agreeing a.node a.e a.m a.n a.room a.lengths.now a.work.now (to_z w32 (of_z w32 a.number)) a.holders) c.loop-node.left c.lowest-p.result) = left_here _ _ (omega arith) c.loop-node.invariant c.is_empty.ensures (rw members (below_within _ _)) (ap not c.loop-node-test.true) c.lowest-p.ensures in
     (omega (arith, here.below), omega (arith, here.below))
 
 pub returns-then-not-member_agrees : goal.returns-then-not-member_agrees
 returns-then-not-member_agrees c =
     let members : (c.meet-left.result ≡ meet c.args.m (all c.args.n)) = c.meet-left.ensures ∙ ap (meet c.args.m) c.all.ensures in
-    let here : (let a = c.args in Here c.meet-left.result a.n (Agreeing a.node a.e a.m a.n a.room a.lengths.now a.work.now (to_z w32 (of_z w32 a.number)) a.holders) c.loop-node.left c.lowest-p.result) = left_here _ _ (omega arith) c.loop-node.invariant c.is_empty.ensures (rw members (below_within _ _)) c.loop-node-test.true c.lowest-p.ensures in
+    let here : (let a = c.args in Here c.meet-left.result a.n (Agreeing a.node a.e a.m a.n a.room a.lengths.now a.work.now (to_z w32 (of_z w32 a.number)) a.holders) c.loop-node.left c.lowest-p.result) = left_here _ _ (omega arith) c.loop-node.invariant c.is_empty.ensures (rw members (below_within _ _)) (ap not c.loop-node-test.true) c.lowest-p.ensures in
     let inside : (member c.lowest-p.result c.args.m ≡ true) = let h = here in below_in _ c.args.m c.args.n members c.lowest-p.result h.below ∙ h.inside in
     let a = c.args in
     rw (read32 a.number c.ranges.number) at
@@ -34,13 +35,13 @@ returns-then-not-member_agrees c =
 pub loop-node-smaller : goal.loop-node-smaller
 loop-node-smaller c =
     let members : (c.meet-left.result ≡ meet c.args.m (all c.args.n)) = c.meet-left.ensures ∙ ap (meet c.args.m) c.all.ensures in
-    let here : (let a = c.args in Here c.meet-left.result a.n (Agreeing a.node a.e a.m a.n a.room a.lengths.now a.work.now (to_z w32 (of_z w32 a.number)) a.holders) c.loop-node.left c.lowest-p.result) = left_here _ _ (omega arith) c.loop-node.invariant c.is_empty.ensures (rw members (below_within _ _)) c.loop-node-test.true c.lowest-p.ensures in
+    let here : (let a = c.args in Here c.meet-left.result a.n (Agreeing a.node a.e a.m a.n a.room a.lengths.now a.work.now (to_z w32 (of_z w32 a.number)) a.holders) c.loop-node.left c.lowest-p.result) = left_here _ _ (omega arith) c.loop-node.invariant c.is_empty.ensures (rw members (below_within _ _)) (ap not c.loop-node-test.true) c.lowest-p.ensures in
     left_falls _ _ here c.rest-left.ensures
 
 pub loop-node-preserved : goal.loop-node-preserved
 loop-node-preserved c =
     let members : (c.meet-left.result ≡ meet c.args.m (all c.args.n)) = c.meet-left.ensures ∙ ap (meet c.args.m) c.all.ensures in
-    let here : (let a = c.args in Here c.meet-left.result a.n (Agreeing a.node a.e a.m a.n a.room a.lengths.now a.work.now (to_z w32 (of_z w32 a.number)) a.holders) c.loop-node.left c.lowest-p.result) = left_here _ _ (omega arith) c.loop-node.invariant c.is_empty.ensures (rw members (below_within _ _)) c.loop-node-test.true c.lowest-p.ensures in
+    let here : (let a = c.args in Here c.meet-left.result a.n (Agreeing a.node a.e a.m a.n a.room a.lengths.now a.work.now (to_z w32 (of_z w32 a.number)) a.holders) c.loop-node.left c.lowest-p.result) = left_here _ _ (omega arith) c.loop-node.invariant c.is_empty.ensures (rw members (below_within _ _)) (ap not c.loop-node-test.true) c.lowest-p.ensures in
     let inside : (member c.lowest-p.result c.args.m ≡ true) = let h = here in below_in _ c.args.m c.args.n members c.lowest-p.result h.below ∙ h.inside in
     let a = c.args in
     let h = here in
@@ -50,4 +51,4 @@ loop-node-preserved c =
 pub returns : goal.returns
 returns c = let a = c.args in
     rw (read32 a.number c.ranges.number) at
-    (agree_all a.node a.e a.m a.n a.room a.lengths.now a.work.now (to_z w32 (of_z w32 a.number)) a.holders (left_over _ _ (omega arith) c.loop-node.invariant c.is_empty.ensures c.loop-node-test.false))
+    (agree_all a.node a.e a.m a.n a.room a.lengths.now a.work.now (to_z w32 (of_z w32 a.number)) a.holders (left_over _ _ (omega arith) c.loop-node.invariant c.is_empty.ensures (ap not c.loop-node-test.false)))

@@ -1,4 +1,5 @@
 -- `meets::present::gather` meets its contract. Assumes nothing.
+use mathlib.Core.Bool.{not}
 use mathlib.Core.Path.{◌≡◌, ap, ◌∙◌}
 use mathlib.Core.Bool.{true}
 use native.Mathlib.Omega.{arith}
@@ -17,26 +18,26 @@ loop-node-init c =
 pub brings-requires : goal.brings-requires
 brings-requires c =
     let members : (c.meet-left.result ≡ meet c.args.m (all c.args.n)) = c.meet-left.ensures ∙ ap (meet c.args.m) c.all.ensures in
-    let here : (let a = c.args in Here c.meet-left.result a.n (Gathering a.node a.e a.m a.n a.room a.lengths.now a.work.now c.loop-node.brought) c.loop-node.left c.lowest-p.result) = left_here _ _ (omega arith) c.loop-node.invariant c.is_empty.ensures (rw members (below_within _ _)) c.loop-node-test.true c.lowest-p.ensures in
+    let here : (let a = c.args in Here c.meet-left.result a.n (Gathering a.node a.e a.m a.n a.room a.lengths.now a.work.now c.loop-node.brought) c.loop-node.left c.lowest-p.result) = left_here _ _ (omega arith) c.loop-node.invariant c.is_empty.ensures (rw members (below_within _ _)) (ap not c.loop-node-test.true) c.lowest-p.ensures in
     (omega (arith, here.below), omega (arith, here.below))
 
 pub returns-in_default : goal.returns-in_default
 returns-in_default c =
     let members : (c.meet-left.result ≡ meet c.args.m (all c.args.n)) = c.meet-left.ensures ∙ ap (meet c.args.m) c.all.ensures in
-    let here : (let a = c.args in Here c.meet-left.result a.n (Gathering a.node a.e a.m a.n a.room a.lengths.now a.work.now c.loop-node.brought) c.loop-node.left c.lowest-p.result) = left_here _ _ (omega arith) c.loop-node.invariant c.is_empty.ensures (rw members (below_within _ _)) c.loop-node-test.true c.lowest-p.ensures in
+    let here : (let a = c.args in Here c.meet-left.result a.n (Gathering a.node a.e a.m a.n a.room a.lengths.now a.work.now c.loop-node.brought) c.loop-node.left c.lowest-p.result) = left_here _ _ (omega arith) c.loop-node.invariant c.is_empty.ensures (rw members (below_within _ _)) (ap not c.loop-node-test.true) c.lowest-p.ensures in
     let inside : (member c.lowest-p.result c.args.m ≡ true) = let h = here in below_in _ c.args.m c.args.n members c.lowest-p.result h.below ∙ h.inside in
     let a = c.args in gather_missing a.node a.e a.m a.n a.room a.lengths.now a.work.now c.lowest-p.result c.loop-node.brought here.below inside c.brings.result c.brings.ensures c.in_default.is
 
 pub loop-node-smaller : goal.loop-node-smaller
 loop-node-smaller c =
     let members : (c.meet-left.result ≡ meet c.args.m (all c.args.n)) = c.meet-left.ensures ∙ ap (meet c.args.m) c.all.ensures in
-    let here : (let a = c.args in Here c.meet-left.result a.n (Gathering a.node a.e a.m a.n a.room a.lengths.now a.work.now c.loop-node.brought) c.loop-node.left c.lowest-p.result) = left_here _ _ (omega arith) c.loop-node.invariant c.is_empty.ensures (rw members (below_within _ _)) c.loop-node-test.true c.lowest-p.ensures in
+    let here : (let a = c.args in Here c.meet-left.result a.n (Gathering a.node a.e a.m a.n a.room a.lengths.now a.work.now c.loop-node.brought) c.loop-node.left c.lowest-p.result) = left_here _ _ (omega arith) c.loop-node.invariant c.is_empty.ensures (rw members (below_within _ _)) (ap not c.loop-node-test.true) c.lowest-p.ensures in
     left_falls _ _ here c.rest-left.ensures
 
 pub loop-node-preserved : goal.loop-node-preserved
 loop-node-preserved c =
     let members : (c.meet-left.result ≡ meet c.args.m (all c.args.n)) = c.meet-left.ensures ∙ ap (meet c.args.m) c.all.ensures in
-    let here : (let a = c.args in Here c.meet-left.result a.n (Gathering a.node a.e a.m a.n a.room a.lengths.now a.work.now c.loop-node.brought) c.loop-node.left c.lowest-p.result) = left_here _ _ (omega arith) c.loop-node.invariant c.is_empty.ensures (rw members (below_within _ _)) c.loop-node-test.true c.lowest-p.ensures in
+    let here : (let a = c.args in Here c.meet-left.result a.n (Gathering a.node a.e a.m a.n a.room a.lengths.now a.work.now c.loop-node.brought) c.loop-node.left c.lowest-p.result) = left_here _ _ (omega arith) c.loop-node.invariant c.is_empty.ensures (rw members (below_within _ _)) (ap not c.loop-node-test.true) c.lowest-p.ensures in
     let inside : (member c.lowest-p.result c.args.m ≡ true) = let h = here in below_in _ c.args.m c.args.n members c.lowest-p.result h.below ∙ h.inside in
     let a = c.args in
     let h = here in
@@ -44,4 +45,4 @@ loop-node-preserved c =
     (gather_more a.node a.e a.m a.n a.room a.lengths.now a.work.now c.lowest-p.result c.loop-node.brought h.below inside c.brings.result c.brings.ensures _ c.in-All.is h.so_far)
 
 pub returns : goal.returns
-returns c = let a = c.args in gather_all a.node a.e a.m a.n a.room a.lengths.now a.work.now c.loop-node.brought (left_over _ _ (omega arith) c.loop-node.invariant c.is_empty.ensures c.loop-node-test.false)
+returns c = let a = c.args in gather_all a.node a.e a.m a.n a.room a.lengths.now a.work.now c.loop-node.brought (left_over _ _ (omega arith) c.loop-node.invariant c.is_empty.ensures (ap not c.loop-node-test.false))
