@@ -10,16 +10,14 @@ pub slice_bounds-show_single-end-2 : goal.slice_bounds-show_single-end-2
 slice_bounds-show_single-end-2 c = sym (length-take-le _ _ (omega arith))
 
 pub slice_bounds-show_joint-end-2 : goal.slice_bounds-show_joint-end-2
-slice_bounds-show_joint-end-2 c = sym (length-take-le _ _ (slice-relend-prefix-show-joint c.before))
+slice_bounds-show_joint-end-2 c = sym (length-take-le _ _ (omega arith))
 
 pub returns : goal.returns
 returns c =
     let a = c.args in
     let h = c.requires in
-    let x = c.show_single-end.new.1.1.1.1 in
-    let k = c.show_single-end.auto.1.1.1.1 in
-    let e : length x.0 ≡ a.lending.records = omega (arith, k.0, h.0.records) in
-    let g : length x.1.0 ≡ a.lending.lengths = omega (arith, k.1.0, h.0.lengths) in
+    let e : length c.show_single-end.new.records ≡ a.lending.records = omega (arith, c.show_single-end.auto.records, h.0.records) in
+    let g : length c.show_single-end.new.lengths ≡ a.lending.lengths = omega (arith, c.show_single-end.auto.lengths, h.0.lengths) in
     both_put a.program.now a.counts.now a.inputs.now a.budget a.turns.now a.lending _ _ _ _ _ _
-    h.0.records h.0.lengths (length-take-le a.lending.single a.work.now h.1.single) e g (sym (slice-aggregate-show-joint c.before.before.before.before.before.before.before.before.before.before))
+    h.0.records h.0.lengths (length-take-le a.lending.single a.work.now h.1.single) e g (length-take-le _ _ (omega arith))
     c.show_single-end.ensures c.show_joint.ensures
