@@ -4,15 +4,18 @@
 ghost use Rattle.std.specs.Prelude.{◌≤◌, length};
 
 use cases::lending::Lending;
+use std::io;
+use std::io::Write;
 
 // "lends 49,152 working and 1,536 record bytes", and a place for the length of each of up to 16 parties
-fn print_runs(
+fn print_runs<W: Write>(
     text: &[u8],
     records: &mut [u8],
     lengths: &mut [usize],
     work: &mut [u8],
     out: &mut [u8],
-)
+    writer: &mut W,
+) -> io::Result<()>
     requires { (1536 ≤ length records.old) × (16 ≤ length lengths.old) × (49152 ≤ length work.old) × (65536 ≤ length out.old) }
 {
     let lending = Lending {
@@ -22,16 +25,23 @@ fn print_runs(
         joint: 49152,
     };
     let end = rehearsal::both::rehearse(text, lending, records, lengths, work, out, 0);
-    io::write_all(1, &out[..end]);
+    writer.write_all(&out[..end])
 }
 
-fn main() {
+fn main(rt: HostRuntime) -> io::Result<()> {
     // One byte more than is taken, so that a longer input shows.
     let mut text = [0u8; 8193];
     let mut records = [0u8; 1536];
     let mut lengths = [0usize; 16];
     let mut work = [0u8; 49152];
-    let mut out = io::large_buffer();
-    let n = io::read_full(0, &mut text);
-    print_runs(&text[..n], &mut records, &mut lengths, &mut work, &mut out);
+    let mut out = streams::large_buffer();
+    let n = streams::read_full(&mut rt.stdin(), &mut text)?;
+    print_runs(
+        &text[..n],
+        &mut records,
+        &mut lengths,
+        &mut work,
+        &mut out,
+        &mut rt.stdout(),
+    )
 }
