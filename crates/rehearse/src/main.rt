@@ -1,7 +1,9 @@
 // Reads a program with its counts, inputs, budget and turns from standard input, and prints both of its runs (document 01, "The program `rehearse`").
 #![tactic(auto)]
 
-ghost use Rattle.std.specs.Prelude.{◌≤◌, length};
+ghost use Rattle.std.specs.Prelude.{◌≤◌, length, OnOk};
+ghost use Rattle.std.specs.Io.KnownBytes.{Appends};
+ghost use Rattle.rehearsal.specs.Both.{shown};
 
 use cases::lending::Lending;
 use std::io;
@@ -17,6 +19,7 @@ fn print_runs<W: Write>(
     writer: &mut W,
 ) -> io::Result<()>
     requires { (1536 ≤ length records.old) × (16 ≤ length lengths.old) × (49152 ≤ length work.old) × (65536 ≤ length out.old) }
+    ensures { OnOk result (Appends (W.contents writer.old) (W.contents writer.new) (shown (record { records = 1536; lengths = 16; single = 49152; joint = 49152 }) text.now)) }
 {
     let lending = Lending {
         records: 1536,

@@ -2,8 +2,10 @@
 // For case I it prints a line `case I` and what `rehearse` prints under that lending. A case that is cut, has no whole head or is too long is bad input.
 #![tactic(auto)]
 
-ghost use Rattle.std.specs.Prelude.{◌≤◌, IfOk};
+ghost use Rattle.std.specs.Prelude.{◌≤◌, IfOk, OnOk};
+ghost use Rattle.std.specs.Io.KnownBytes.{Appends};
 ghost use Rattle.streams.specs.Counts.{IsPrefixLen};
+ghost use Rattle.vectors.specs.Printed.{case_printed};
 ghost use Rattle.vectors.specs.Spaces.{Spaces};
 
 use cases::lending::Lending;
@@ -20,6 +22,7 @@ fn print_case<W: Write>(
     writer: &mut W,
 ) -> io::Result<()>
     requires { Spaces records.old lengths.old work.old out.old }
+    ensures { OnOk result (Appends (W.contents writer.old) (W.contents writer.new) (case_printed case.now)) }
 {
     if case.len() < Lending::SIZE {
         return writer.write_all(b"bad input\n");

@@ -1,7 +1,9 @@
 // Reads cases of two records from standard input and prints the lines of each.
 #![tactic(auto)]
 
-ghost use Rattle.std.specs.Prelude.{◌≡◌, ◌≤◌, length, IfOk};
+ghost use Rattle.std.specs.Prelude.{◌≡◌, ◌≤◌, length, IfOk, OnOk, ◌++◌};
+ghost use Rattle.std.specs.Io.KnownBytes.{Appends};
+ghost use Rattle.listing.specs.Lines.{case_line, walk_line, order_line};
 ghost use Rattle.walks.specs.Room.{max_record, room_out, Fits};
 
 use std::io;
@@ -46,6 +48,7 @@ fn show<'a, W: Write>(
     writer: &mut W,
 ) -> io::Result<()>
     requires { (length a.now ≤ max_record) × (length b.now ≤ max_record) × (room_out ≤ length out.old) }
+    ensures { OnOk result (Appends (W.contents writer.old) (W.contents writer.new) (case_line number ++ (walk_line a.now ++ (walk_line b.now ++ order_line a.now b.now)))) }
 {
     let end_case = listing::lines::put_case(number, out, 0);
     let end_a = listing::lines::put_walk(a, out, end_case);
