@@ -1,7 +1,7 @@
 /*
  * Threadmolar: the check of programs, the single run, the joint run, the walk of a record and the comparison of two records.
  *
- * Link target/staticlib/libthreadmolar.a, which `rt staticlib threadmolar` writes (x86-64 Linux). Every function is proved against its contract
+ * Link target/staticlib/libthreadmolar.a, which `bin/staticlib` writes (x86-64 Linux). Every function is proved against its contract
  * in crates/threadmolar.
  *
  * Every function answers one number: an answer in its low byte and, above it, a place. THREADMOLAR_ANSWER and THREADMOLAR_PLACE take it apart.

@@ -20,7 +20,7 @@ fn main() -> ExitCode {
         return ExitCode::from(2);
     };
     if !threadmolar::LINKED {
-        eprintln!("this was built without libthreadmolar.a: `rt staticlib threadmolar` makes it, for x86-64 Linux");
+        eprintln!("this was built without libthreadmolar.a: `bin/staticlib` makes it, for x86-64 Linux");
         return ExitCode::from(2);
     }
     let machine = machine::lines();

@@ -1,4 +1,4 @@
-//! Links the archive that `rt staticlib threadmolar` makes. Where there is none the crate compiles without it, and says so.
+//! Links the archive that `bin/staticlib` makes. Where there is none the crate compiles without it, and says so.
 use std::env;
 use std::path::PathBuf;
 
@@ -16,7 +16,7 @@ fn main() {
     let archive = folder.join("libthreadmolar.a");
     println!("cargo:rerun-if-changed={}", archive.display());
     if !archive.exists() {
-        println!("cargo:warning=threadmolar: {} is missing; `rt staticlib threadmolar` makes it", archive.display());
+        println!("cargo:warning=threadmolar: {} is missing; `bin/staticlib` makes it", archive.display());
         return;
     }
     println!("cargo:rustc-cfg=threadmolar_archive");

@@ -1,4 +1,4 @@
-//! Threadmolar from Rust: safe calls of the archive that `rt staticlib threadmolar` makes.
+//! Threadmolar from Rust: safe calls of the archive that `bin/staticlib` makes.
 //!
 //! Every call takes anything that it is lent. A refused call changes nothing.
 //!

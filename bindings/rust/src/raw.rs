@@ -10,7 +10,7 @@ macro_rules! declared {
         $(
             #[cfg(not(threadmolar_archive))]
             pub unsafe fn $name($(_: $type),*) -> u32 {
-                panic!("threadmolar was built without its archive: `rt staticlib threadmolar` makes it, for x86-64 Linux")
+                panic!("threadmolar was built without its archive: `bin/staticlib` makes it, for x86-64 Linux")
             }
         )*
     };

@@ -1,7 +1,8 @@
 -- How long a text is, and texts put one after another. Assumes nothing.
-use Rattle.std.specs.Prelude.{◌≡◌, refl, ℕ, zero, suc, ◌+◌, ◌*◌, ◌/◌, ◌%◌, ◌≤◌, Bool, true, false, cond, List, [], ◌∷◌, ◌++◌, ltb, length}
+use Rattle.std.specs.Prelude.{◌≡◌, refl, ℕ, zero, suc, ◌+◌, ◌*◌, ◌/◌, ◌%◌, ◌≤◌, Bool, true, false, cond, List, [], ◌∷◌, ◌++◌, ltb, length, drop, take}
 use Rattle.std.proofs.Common.{ap, ◌∙◌, arith, length-append}
-use Rattle.std.proofs.Math.Seq.{length-sets}
+use Rattle.std.proofs.Math.Seq.{length-sets, take-append_seam}
+use Rattle.std.proofs.lemmas.List.Edits.{sets-eq}
 use Rattle.stretches.proofs.StretchLaws.{sets_append}
 use Rattle.text.specs.Text.{ascii, digit, decimal_within, max_digits, decimal, hex_digit, hex, spaced, Puts}
 
@@ -75,3 +76,11 @@ puts_then {s} {t} {x} {y} {z} {a} {b} {c} p q =
       end = rw length-append (omega (arith, p.end, q.end));
       bytes = q.bytes ∙ rw (p.bytes, p.end, sets_append s t x a);
     }
+
+-- a text put at the start is what the bytes begin with, as far as the place after it
+pub puts_first : (s x y : List ℕ) (r : ℕ) → Puts s 0 r x y → r ≤ length y → take r y ≡ s
+puts_first s x y r p within =
+    let long : 0 + length s ≤ length x = omega (arith, p.end, ap length p.bytes, length-sets {A = ℕ}) in
+    let end : r ≡ length s = omega (arith, p.end) in
+    rw (end, p.bytes, sets-eq s x 0 long)
+    (take-append_seam s (drop (0 + length s) x))

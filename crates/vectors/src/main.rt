@@ -2,50 +2,54 @@
 // For case I it prints a line `case I` and what `rehearse` prints under that lending. A case that is cut, has no whole head or is too long is bad input.
 #![tactic(auto)]
 
-ghost use Rattle.std.specs.Prelude.{◌≤◌};
-ghost use Rattle.io.specs.Counts.{IsPrefixLen};
+ghost use Rattle.std.specs.Prelude.{◌≤◌, IfOk, OnOk};
+ghost use Rattle.std.specs.Io.KnownBytes.{Appends};
+ghost use Rattle.streams.specs.Counts.{IsPrefixLen};
+ghost use Rattle.vectors.specs.Printed.{case_printed};
 ghost use Rattle.vectors.specs.Spaces.{Spaces};
 
 use cases::lending::Lending;
+use std::io;
+use std::io::{Read, Write};
 
 // What is printed of a case, whole.
-fn print_case(
+fn print_case<W: Write>(
     case: &[u8],
     records: &mut [u8],
     lengths: &mut [usize],
     work: &mut [u8],
     out: &mut [u8],
-)
+    writer: &mut W,
+) -> io::Result<()>
     requires { Spaces records.old lengths.old work.old out.old }
+    ensures { OnOk result (Appends (W.contents writer.old) (W.contents writer.new) (case_printed case.now)) }
 {
     if case.len() < Lending::SIZE {
-        io::write_all(1, b"bad input\n");
-        return;
+        return writer.write_all(b"bad input\n");
     }
     let lending = cases::lending::lending_of(case);
     let end = rehearsal::both::rehearse(&case[13..], lending, records, lengths, work, out, 0);
-    io::write_all(1, &out[..end]);
+    writer.write_all(&out[..end])
 }
 
 // Case number i, of as many bytes as `case` has.
-fn read_case(
+fn read_case<R: Read, W: Write>(
     i: u64,
     case: &mut [u8],
     records: &mut [u8],
     lengths: &mut [usize],
     work: &mut [u8],
     out: &mut [u8],
-)
+    reader: &mut R,
+    writer: &mut W,
+) -> io::Result<()>
     requires { Spaces records.old lengths.old work.old out.old }
 {
-    io::write_all(1, b"case ");
-    io::print_decimal(1, i);
-    io::write_all(1, b"\n");
-    if io::read_full(0, case) < case.len() {
-        io::write_all(1, b"bad input\n");
-        return;
+    writeln!(writer, "case {i}")?;
+    if streams::read_full(reader, case)? < case.len() {
+        return writer.write_all(b"bad input\n");
     }
-    print_case(case, records, lengths, work, out);
+    print_case(case, records, lengths, work, out, writer)
 }
 
 // n, or as much of it as there is space for.
@@ -56,68 +60,102 @@ fn at_most(n: usize, space: &[u8]) -> usize
 }
 
 // Reads past some of the bytes, and says how many: 0 where there are none left.
-fn skip_some(bytes: usize, space: &mut [u8]) -> usize
-    ensures { result ≤ bytes }
+fn skip_some<R: Read>(bytes: usize, space: &mut [u8], reader: &mut R) -> io::Result<usize>
+    ensures { IfOk result (λ n. n ≤ bytes) }
 {
     let size = at_most(bytes, space);
-    io::read_full(0, &mut space[..size])
+    streams::read_full(reader, &mut space[..size])
 }
 
-fn skip(bytes: usize, space: &mut [u8]) {
+fn skip<R: Read>(bytes: usize, space: &mut [u8], reader: &mut R) -> io::Result<()> {
     let mut left = bytes;
     while left > 0 {
-        let some = skip_some(left, space);
+        let some = skip_some(left, space, reader)?;
         if some == 0 {
-            return;
+            return Ok(());
         }
         left -= some;
     }
+    Ok(())
 }
 
 // The next case, if there is one. Of a case that is too long so much is read as shows it, and the rest is skipped.
-fn next_case(
+fn next_case<R: Read, W: Write>(
     i: u64,
     space: &mut [u8],
     records: &mut [u8],
     lengths: &mut [usize],
     work: &mut [u8],
     out: &mut [u8],
-) -> bool
+    reader: &mut R,
+    writer: &mut W,
+) -> io::Result<bool>
     requires { Spaces records.old lengths.old work.old out.old }
 {
     let mut head = [0u8; 4];
-    if io::read_full(0, &mut head) < 4 {
-        return false;
+    if streams::read_full(reader, &mut head)? < 4 {
+        return Ok(false);
     }
     let bytes = words::load4(&head, 0) as usize;
     let size = at_most(bytes, space);
-    read_case(i, &mut space[..size], records, lengths, work, out);
-    skip(bytes - size, space);
-    true
+    read_case(
+        i,
+        &mut space[..size],
+        records,
+        lengths,
+        work,
+        out,
+        reader,
+        writer,
+    )?;
+    skip(bytes - size, space, reader)?;
+    Ok(true)
 }
 
 // A proved loop has to end, and nothing says that a file does. So the loop counts its turns down, from a number that no file uses up.
-fn run_cases(
+fn run_cases<R: Read, W: Write>(
     space: &mut [u8],
     records: &mut [u8],
     lengths: &mut [usize],
     work: &mut [u8],
     out: &mut [u8],
-)
+    reader: &mut R,
+    writer: &mut W,
+) -> io::Result<()>
     requires { Spaces records.old lengths.old work.old out.old }
 {
     let mut turns = u64::MAX;
-    while turns > 0 && next_case(u64::MAX - turns, space, records, lengths, work, out) {
+    while turns > 0
+        && next_case(
+            u64::MAX - turns,
+            space,
+            records,
+            lengths,
+            work,
+            out,
+            reader,
+            writer,
+        )?
+    {
         turns -= 1;
     }
+    Ok(())
 }
 
-fn main() {
+fn main(rt: HostRuntime) -> io::Result<()> {
     // The head, and one byte more than `rehearse` takes, so that a longer case shows.
     let mut space = [0u8; 8206];
     let mut records = [0u8; 8192];
     let mut lengths = [0usize; 17];
     let mut work = [0u8; 266240];
-    let mut out = io::large_buffer();
-    run_cases(&mut space, &mut records, &mut lengths, &mut work, &mut out);
+    let mut out = streams::large_buffer();
+    run_cases(
+        &mut space,
+        &mut records,
+        &mut lengths,
+        &mut work,
+        &mut out,
+        &mut rt.stdin(),
+        &mut rt.stdout(),
+    )
 }

@@ -1,10 +1,13 @@
 // Reads cases of two records from standard input and prints the lines of each.
 #![tactic(auto)]
 
-ghost use Rattle.std.specs.Prelude.{◌≡◌, ◌≤◌, length};
+ghost use Rattle.std.specs.Prelude.{◌≡◌, ◌≤◌, length, IfOk, OnOk, ◌++◌};
+ghost use Rattle.std.specs.Io.KnownBytes.{Appends};
+ghost use Rattle.listing.specs.Lines.{case_line, walk_line, order_line};
 ghost use Rattle.walks.specs.Room.{max_record, room_out, Fits};
 
-use libc::{STDIN_FILENO, STDOUT_FILENO};
+use std::io;
+use std::io::{Read, Write};
 
 // Zeros, enough for a case's number and the walk of a record.
 fn lines_buffer() -> [u8; 1048576]
@@ -21,58 +24,74 @@ enum Got {
 }
 
 // Reads a record's length and its bytes, which come to the start of the slice.
-fn read_record(bytes: &mut [u8]) -> Got
+fn read_record<R: Read>(bytes: &mut [u8], reader: &mut R) -> io::Result<Got>
     requires { max_record ≤ length bytes.old }
-    ensures { Fits result }
+    ensures { IfOk result Fits }
 {
     let mut head = [0u8; 2];
-    if io::read_full(STDIN_FILENO, &mut head) < 2 {
-        return Got::Cut;
+    if streams::read_full(reader, &mut head)? < 2 {
+        return Ok(Got::Cut);
     }
     let n = words::load2(&head, 0) as usize;
-    if io::read_full(STDIN_FILENO, &mut bytes[..n]) < n {
-        return Got::Cut;
+    if streams::read_full(reader, &mut bytes[..n])? < n {
+        return Ok(Got::Cut);
     }
-    Got::Record(n)
+    Ok(Got::Record(n))
 }
 
 // The lines of a case, written as they are put.
-fn show<'a>(number: u64, a: &'a [u8], b: &'a [u8], out: &mut [u8]) -> bool
+fn show<'a, W: Write>(
+    number: u64,
+    a: &'a [u8],
+    b: &'a [u8],
+    out: &mut [u8],
+    writer: &mut W,
+) -> io::Result<()>
     requires { (length a.now ≤ max_record) × (length b.now ≤ max_record) × (room_out ≤ length out.old) }
+    ensures { OnOk result (Appends (W.contents writer.old) (W.contents writer.new) (case_line number ++ (walk_line a.now ++ (walk_line b.now ++ order_line a.now b.now)))) }
 {
     let end_case = listing::lines::put_case(number, out, 0);
     let end_a = listing::lines::put_walk(a, out, end_case);
-    if !io::write_all(STDOUT_FILENO, &out[..end_a]) {
-        return false;
-    }
+    writer.write_all(&out[..end_a])?;
     let end_b = listing::lines::put_walk(b, out, 0);
-    if !io::write_all(STDOUT_FILENO, &out[..end_b]) {
-        return false;
-    }
+    writer.write_all(&out[..end_b])?;
     let end = listing::lines::put_order(a, b, out, 0);
-    io::write_all(STDOUT_FILENO, &out[..end])
+    writer.write_all(&out[..end])
 }
 
-// One case. Answers whether to go on: not where the input ends or a write fails.
-fn do_case(number: u64, a: &mut [u8], b: &mut [u8], out: &mut [u8]) -> bool
+// One case. Answers whether to go on: not where the input ends.
+fn do_case<R: Read, W: Write>(
+    number: u64,
+    a: &mut [u8],
+    b: &mut [u8],
+    out: &mut [u8],
+    reader: &mut R,
+    writer: &mut W,
+) -> io::Result<bool>
     requires { (max_record ≤ length a.old) × (max_record ≤ length b.old) × (room_out ≤ length out.old) }
 {
-    let Got::Record(m) = read_record(a) else {
-        return false;
+    let Got::Record(m) = read_record(a, reader)? else {
+        return Ok(false);
     };
-    let Got::Record(n) = read_record(b) else {
-        return false;
+    let Got::Record(n) = read_record(b, reader)? else {
+        return Ok(false);
     };
-    show(number, &a[..m], &b[..n], out)
+    show(number, &a[..m], &b[..n], out, writer)?;
+    Ok(true)
 }
 
 // A proved loop has to end, and nothing says that the input does. So the cases are counted, up to a number that no run comes to.
-fn main() {
-    let mut a = io::large_buffer();
-    let mut b = io::large_buffer();
+fn main(rt: HostRuntime) -> io::Result<()> {
+    let mut a = streams::large_buffer();
+    let mut b = streams::large_buffer();
     let mut out = lines_buffer();
+    let mut reader = rt.stdin();
+    let mut writer = rt.stdout();
     let mut number: u64 = 0;
-    while number < u64::MAX && do_case(number, &mut a, &mut b, &mut out) {
+    while number < u64::MAX
+        && do_case(number, &mut a, &mut b, &mut out, &mut reader, &mut writer)?
+    {
         number += 1;
     }
+    Ok(())
 }

@@ -11,7 +11,7 @@ macro_rules! needs_archive {
             )]
             #[cfg_attr(
                 all(target_arch = "x86_64", target_os = "linux", not(threadmolar_archive)),
-                ignore = "SKIPPED: there is no libthreadmolar.a; `rt staticlib threadmolar` makes it"
+                ignore = "SKIPPED: there is no libthreadmolar.a; `bin/staticlib` makes it"
             )]
             fn $name() $body
         )*
