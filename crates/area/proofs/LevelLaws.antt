@@ -1,10 +1,10 @@
 -- Levels and frames: each goes by its own bytes alone, and where all are zero no name is bound. Assumes nothing.
 use mathlib.Core.Path.{◌≡◌, refl, ap, ap₂, ◌∙◌}
-use mathlib.Core.List.{List, [], ◌∷◌, ◌++◌}
+use mathlib.Core.List.{List, [], ◌∷◌}
 use Prim.Native.Nat.{ℕ, zero, suc, ◌+◌, ◌-◌, ◌*◌, ◌≤◌, ◌<◌}
 use native.Mathlib.Nat.{not-suc-le-zero}
 use native.Mathlib.Omega.{arith}
-use lib.ListN.{length, get_or, set, take, drop, replicate}
+use lib.ListN.{length, get_or, set, take, replicate}
 use lib.Seq.{sets, take-set-le}
 use Rattle.words.specs.Words.{number_at}
 use Rattle.words.proofs.WordLaws.{number_same}

@@ -1,24 +1,23 @@
 -- A cell in bytes: what is stored is read back, and what is read goes by the cell's bytes alone. Assumes nothing.
-use mathlib.Core.Path.{◌≡◌, refl, sym, ap, ap₂, ◌∙◌}
+use mathlib.Core.Path.{◌≡◌, refl, ap, ◌∙◌}
 use mathlib.Core.List.{List, [], ◌∷◌, ◌++◌}
-use Prim.Native.Nat.{ℕ, zero, suc, ◌+◌, ◌≤◌, ◌<◌}
+use Prim.Native.Nat.{ℕ, ◌+◌, ◌≤◌, ◌<◌}
 use native.Mathlib.Nat.{add_assoc, add-zero, zero-add}
 use native.Mathlib.Numerals.{towards_suc}
 use native.Mathlib.Omega.{arith}
-use lib.IntN.{ℤ, pos}
-use lib.ListN.{length, get_or, set, length-append}
+use lib.IntN.{ℤ}
+use lib.ListN.{length, get_or, set}
 use lib.Seq.{sets}
 use mir.Syntax.{w32}
 use mir.Val.{SFits, to_z, of_z}
-use Rattle.numbers.specs.Integers.{residue, signed}
 use Rattle.words.specs.Words.{low_first, number_at, integer_bytes, integer_at}
-use Rattle.numbers.proofs.IntegerLaws.{read32, signed_residue, residue_fits}
-use Rattle.stretches.proofs.StretchLaws.{sets_at, sets_append}
+use Rattle.numbers.proofs.IntegerLaws.{read32}
+use Rattle.stretches.proofs.StretchLaws.{sets_at}
 use Rattle.words.proofs.WordLaws.{number_same, number_in, integer_in}
 use Rattle.parties.specs.Sets.{none}
 use Rattle.parties.specs.SetBytes.{set_bytes, set_at}
 use Rattle.parties.specs.declared.sets.PartySet.{PartySet}
-use Rattle.cells.specs.Cells.{width, cell, cell_bytes, made, cell_at, Ranged}
+use Rattle.cells.specs.Cells.{width, cell, cell_bytes, cell_at, Ranged}
 use Rattle.values.specs.declared.value.Value.TheVariants.{Nothing, Clear, Share}
 use Rattle.cells.specs.declared.Bound.{Bound}
 use Rattle.cells.specs.declared.Bound.TheVariants.{Unbound, To}

@@ -20,7 +20,7 @@ use Rattle.rules.specs.RuleLaws.{OfKind, rule_holds}
 use Rattle.rules.specs.Moves.{Control}
 use Rattle.rules.specs.Books.{Book, event_of, room_for}
 use Rattle.rules.specs.Single.{Setting}
-use Rattle.rules.specs.Joint.{Site, running, stop, acts, attends, Own, perform_own, site, own, Attendance, away, there, attending, attendance, is_there}
+use Rattle.rules.specs.Joint.{Site, running, stop, acts, attends, Own, perform_own, site, own, Attendance, away, attending, attendance, is_there}
 use Rattle.rules.specs.declared.effects.Meeting.{Meeting}
 use Rattle.rules.specs.declared.effects.Offer.{Offer}
 use Rattle.rules.specs.declared.effects.Effect.{Effect}

@@ -1,5 +1,5 @@
 -- The limits of document 01, each with the kind of thing that it limits.
-use Rattle.std.specs.Prelude.{ℕ, ◌+◌, Bool, ◌&&◌, cond, ltb, leb}
+use Rattle.std.specs.Prelude.{ℕ, ◌+◌, ◌&&◌, cond, ltb, leb}
 use Rattle.limits.specs.declared.Depth.{Depth}
 use Rattle.limits.specs.declared.MadeParty.{MadeParty}
 use Rattle.limits.specs.declared.MadeParty.TheVariants as Party'

@@ -5,7 +5,7 @@ use Rattle.walk.specs.Walk.{Walked, ends, stops, and_then, walk}
 use Rattle.order.specs.Order.{order_of, continued}
 use Rattle.order.specs.declared.Order.{Order}
 use Rattle.order.specs.declared.Order.TheVariants.{FirstLonger, SecondLonger, Equal, Neither}
-use Rattle.text.specs.Text.{ascii, decimal, hex, spaced}
+use Rattle.text.specs.Text.{ascii, decimal, spaced}
 
 -- `case I`
 unfoldable pub case_line : ℕ → List ℕ

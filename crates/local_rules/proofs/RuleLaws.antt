@@ -1,8 +1,7 @@
 -- What the rules' definitions say case by case, as the code takes them apart. Assumes nothing.
-use mathlib.Core.Path.{◌≡◌, refl, sym, ap, ◌∙◌}
-use mathlib.Core.Bool.{Bool, true, false, cond, ◌&&◌, beq, false≢true}
-use mathlib.Core.List.{List, [], ◌∷◌}
-use Prim.Native.Nat.{ℕ, ◌≤◌, ◌<◌}
+use mathlib.Core.Path.{◌≡◌, refl, ap, ◌∙◌}
+use mathlib.Core.Bool.{Bool, true, false, false≢true}
+use Prim.Native.Nat.{ℕ, ◌<◌}
 use native.Mathlib.Decide.{dec_lt}
 use native.Mathlib.Omega.{arith}
 use lib.IntN.{ℤ, pos}
@@ -24,7 +23,6 @@ use Rattle.local_rules.specs.Handed.{clear_in}
 use Rattle.rules.specs.declared.effects.Effect.{Effect}
 use Rattle.rules.specs.declared.effects.Effect.TheVariants.{Refuse, Goes}
 use Rattle.rules.specs.declared.effects.Move.TheVariants.{Hand}
-use Rattle.local_rules.specs.declared.Clear.{Clear}
 use Rattle.local_rules.specs.declared.Clear.TheVariants.{Is, Not}
 
 -- who makes up a mode is one of its sixteen parties

@@ -5,7 +5,6 @@ use Rattle.numbers.specs.declared.integers.Operation.{Operation}
 use Rattle.numbers.specs.declared.integers.Operation.TheVariants.{Add, Sub, Mul, Eq, Lt}
 use Rattle.parties.specs.SetBytes.{set_at}
 use Rattle.limits.specs.declared.Name.{Name}
-use Rattle.limits.specs.declared.Party.{Party}
 use Rattle.nodes.specs.declared.Node.{Node}
 use Rattle.nodes.specs.declared.Node.TheVariants.{VAR, INT, OP, MUX, READ, WRITE, EMBED, SHARE, REVEAL, LET, CASE, PAR, CALL}
 use Rattle.nodes.specs.declared.JointNode.{JointNode}

@@ -1,15 +1,15 @@
 -- What the machine's counts and shifts of 16 bits say of a party set. Assumes nothing.
 use mathlib.Core.Path.{◌≡◌, refl, sym, ap, ◌∙◌}
 use mathlib.Core.Bool.{Bool, true, false, cond}
-use Prim.Native.Nat.{ℕ, zero, suc, ◌+◌, ◌-◌, ◌*◌, ◌/◌, ◌%◌, ◌^◌, ◌≤◌, ◌<◌, min}
+use Prim.Native.Nat.{ℕ, zero, suc, ◌+◌, ◌-◌, ◌*◌, ◌/◌, ◌%◌, ◌^◌, ◌≤◌, ◌<◌}
 use native.Mathlib.Nat.{pow-suc, div-div-eq-div-mul, div-one, one-mul, mod-eq_of_lt, div-eq_of_lt, div-lt_iff_lt-mul}
 use native.Mathlib.Decide.{dec_lt}
 use native.Mathlib.Omega.{arith}
 use borrow.Author.Tests.{eq-eqb, ne_eqb, lt-ltb, le-ltb}
 use lib.Count.{ones, ones_step, count_trailing_zeros, trailing_le, under}
-use lib.Dec.{eqb, ltb}
+use lib.Dec.{eqb}
 use lib.Pow.{pow-lt, pow_mono, pow_pos}
-use Rattle.parties.specs.Sets.{bit, member, count_from, count, lowest_from, lowest, within, only, all, join, same_set, make_up}
+use Rattle.parties.specs.Sets.{bit, member, count_from, count, lowest_from, lowest, within, only, join, same_set, make_up}
 use Rattle.parties.specs.SetLaws.{bit_high, member_join, member_only, same_set_lem}
 use Rattle.parties.specs.declared.sets.PartySet.{PartySet}
 

@@ -1,6 +1,6 @@
 -- Laws of party sets: all that a proof about them uses. Assumes nothing.
 use Rattle.std.specs.Prelude.{◌≡◌, refl, Bool, true, false, cond, not, ◌&&◌, ◌||◌, ℕ, zero, suc, ◌+◌, ◌-◌, ◌*◌, ◌/◌, ◌%◌, ◌^◌, ◌≤◌, ◌<◌, min, max, eqb}
-use Rattle.std.proofs.Common.{sym, ap, ◌∙◌, add-zero, mul_comm, mod-lt, zero-lt-suc, pow-suc, not-suc-le-zero, mul-div_cancel, div-one, arith, eq-eqb, ne_eqb, eqb-true, lt-ltb, ltb-true, pow_pos, pow_mono, lit<}
+use Rattle.std.proofs.Common.{sym, ap, ◌∙◌, add-zero, mul_comm, zero-lt-suc, pow-suc, not-suc-le-zero, mul-div_cancel, div-one, arith, eq-eqb, ne_eqb, eqb-true, lt-ltb, ltb-true, pow_pos, pow_mono, lit<}
 use Rattle.std.proofs.Math.Bool.{and-true, and-false}
 use Rattle.std.proofs.lemmas.Bool.{false≢true, eqb-false}
 use Rattle.std.proofs.Math.Nat.{mul-mod_left, div-div-eq-div-mul, div-eq_of_lt}
@@ -10,7 +10,7 @@ use Rattle.std.specs.Int.Bits.{bit_and, bit_or, and_step, or_step, and_self}
 use Rattle.std.proofs.lemmas.Nat.{and_shr, or_shr, and_le_r}
 use Rattle.std.proofs.Math.Dec.{eqb-suc-suc, eqb-zero-suc, eqb-suc-zero}
 use Rattle.limits.specs.Limits.{max_parties}
-use Rattle.parties.specs.Sets.{bit, member, meet, join, is_empty, same_set, none, only, all, within, count_from, count, lowest_from, lowest, rest, make_up}
+use Rattle.parties.specs.Sets.{bit, member, meet, join, is_empty, same_set, none, only, all, within, count_from, count, lowest_from, lowest, rest}
 use Rattle.parties.specs.declared.sets.PartySet.{PartySet}
 
 -- ---- one bit

@@ -1,5 +1,5 @@
 -- Party sets: "A party set is two bytes, bit i for party i" (document 01, "Program bytes").
-use Rattle.std.specs.Prelude.{ℕ, zero, suc, ◌+◌, ◌-◌, ◌/◌, ◌%◌, ◌^◌, min, Bool, cond, eqb, ltb}
+use Rattle.std.specs.Prelude.{ℕ, zero, suc, ◌+◌, ◌-◌, ◌/◌, ◌%◌, ◌^◌, Bool, cond, eqb, ltb}
 use Rattle.std.specs.Int.Bits.{bit_and, bit_or}
 use Rattle.limits.specs.Limits.{max_parties}
 use Rattle.parties.specs.declared.sets.PartySet.{PartySet}

@@ -11,7 +11,7 @@ use Rattle.limits.specs.declared.Name.{Name}
 use Rattle.parties.specs.declared.sets.PartySet.{PartySet}
 use Rattle.nodes.specs.Nodes.{is_node_kind, body_length, node_in}
 use Rattle.program.specs.Kinds.{rule_of, body_of}
-use Rattle.program.specs.Check.{is_name, fits, Placed, Scanned, nodes, scan, calls, bad_call, Program, Checked, unless_bad_call, verdict, checked, node_at}
+use Rattle.program.specs.Check.{is_name, fits, Placed, Scanned, scan, calls, bad_call, Program, Checked, unless_bad_call, verdict, checked, node_at}
 use Rattle.places.specs.Places.{length_of, next_at, place_of, Tabled}
 use Rattle.program.specs.ScanLaws.{both, body_short, after, from, scan_next}
 use Rattle.nodes.specs.declared.Node.TheVariants.{READ, LET, CASE, PAR, CALL}

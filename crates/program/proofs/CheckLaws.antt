@@ -11,7 +11,7 @@ use lib.Dec.{eqb, leb, leb-zero}
 use lib.ListN.{length, length-append, length-map}
 use borrow.Author.Tests.{le-leb, lt-leb, leb-true}
 use Rattle.refusals.specs.Numbers.{bad_program}
-use Rattle.program.specs.Check.{Placed, Scanned, nodes, put, scan, calls, bad_call, Checked, unless_bad_call, verdict, checked}
+use Rattle.program.specs.Check.{Placed, Scanned, put, scan, calls, bad_call, Checked, unless_bad_call, verdict, checked}
 use Rattle.program.specs.Answer.{CheckAnswer, accepted, refused, answer_of, check_answer}
 use Rattle.program.specs.Records.{reach_of, found_at, parties_in, scanned, AllGood}
 use Rattle.nodes.specs.declared.Node.{Node}

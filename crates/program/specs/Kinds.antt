@@ -1,5 +1,5 @@
 -- What the kind byte fixes, as the code takes it apart: the body's length, and the rule for its fields.
-use Rattle.std.specs.Prelude.{ℕ, cond, List, [], ◌∷◌, get_or}
+use Rattle.std.specs.Prelude.{ℕ, cond, [], ◌∷◌, get_or}
 use Rattle.nodes.specs.Nodes.{is_node_kind, body_length}
 use Rattle.program.specs.declared.kinds.Rule.{Rule}
 use Rattle.program.specs.declared.kinds.Rule.TheVariants.{Free, OneName, Operation, ThreeNames, Share, Reveal, Parts, Par, Call}

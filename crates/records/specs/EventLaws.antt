@@ -1,5 +1,5 @@
 -- The lengths and ranges of events, and records that are joined. Assumes nothing.
-use Rattle.std.specs.Prelude.{◌≡◌, refl, List, [], ◌∷◌, ◌++◌, ℕ, ◌+◌, ◌≤◌, length}
+use Rattle.std.specs.Prelude.{◌≡◌, refl, List, [], ◌∷◌, ◌++◌, ℕ, ◌≤◌, length}
 use Rattle.std.proofs.Common.{append_assoc, arith}
 use Rattle.words.specs.Words.{low_first}
 use Rattle.cells.specs.Cells.{RangedValue}

@@ -13,7 +13,6 @@ use Rattle.parties.specs.declared.sets.PartySet.{PartySet}
 use Rattle.program.specs.Check.{Program, node_at}
 use Rattle.nodes.specs.Nodes.{joint_node, IsJoint}
 use Rattle.nodes.specs.declared.Node.{Node}
-use Rattle.nodes.specs.declared.Node.TheVariants.{SHARE, REVEAL}
 use Rattle.nodes.specs.declared.JointNode.{JointNode}
 use Rattle.nodes.specs.declared.JointNode.TheVariants.{SHARE as SHARE', REVEAL as REVEAL', Neither}
 use Rattle.records.specs.Events.{has_room}

@@ -1,5 +1,5 @@
 -- The table of places at the head of an area.
-use Rattle.std.specs.Prelude.{◌≡◌, ℕ, ◌*◌, ◌≤◌, ◌<◌, cond, List, ltb}
+use Rattle.std.specs.Prelude.{◌≡◌, ℕ, ◌*◌, ◌<◌, cond, List, ltb}
 use Rattle.words.specs.Words.{number_at}
 use Rattle.nodes.specs.Nodes.{node_in}
 use Rattle.places.specs.Places.{place_of}

@@ -1,6 +1,5 @@
 -- `inputs::counts_fit` meets its contract. Assumes nothing.
 use mathlib.Core.Path.{◌≡◌}
-use Prim.Native.Nat.{◌-◌}
 use native.Mathlib.Omega.{arith}
 use lib.ListN.{length}
 use Rattle.inputs.proofs.InputLaws.{sum_take_none, sum_take_suc, fit_length, fit_lack, fit_all}

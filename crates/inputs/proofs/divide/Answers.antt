@@ -1,6 +1,5 @@
 -- `inputs::divide` meets its contract. Assumes nothing.
 use mathlib.Core.Path.{◌≡◌}
-use Prim.Native.Nat.{◌-◌}
 use native.Mathlib.Omega.{arith}
 use lib.ListN.{length}
 use Rattle.inputs.proofs.InputLaws.{divide_none, divide_more, divide_all, sum_next}

@@ -1,12 +1,8 @@
 -- `nodes::node_at` meets its contract. Assumes nothing.
-use mathlib.Core.Path.{◌≡◌, refl, ◌∙◌}
-use mathlib.Core.List.{List}
-use Prim.Native.Nat.{ℕ, suc, ◌+◌, ◌/◌, ◌%◌, ◌^◌, ◌≤◌, ◌<◌}
+use mathlib.Core.Path.{refl, ◌∙◌}
 use native.Mathlib.Omega.{arith}
-use lib.ListN.{get_or, drop}
 use Rattle.numbers.proofs.IntegerLaws.{read32}
-use Rattle.words.specs.Words.{number_at}
-use Rattle.nodes.specs.Nodes.{node_of, node_in}
+use Rattle.nodes.specs.Nodes.{node_of}
 use Rattle.nodes.proofs.ReadLaws.{body_byte, body_number, kind_is, share_in, reveal_in, other_read}
 use Rattle.nodes.proofs.node_at.Goals as goal
 

@@ -1,6 +1,5 @@
 -- `order::starts` meets its contract. Assumes nothing.
 use mathlib.Core.Path.{refl, sym, ◌∙◌}
-use Prim.Native.Nat.{◌-◌}
 use native.Mathlib.Omega.{arith}
 use Rattle.order.proofs.OrderLaws.{at_end, too_short, differs, agrees}
 use Rattle.order.proofs.starts.Goals as goal

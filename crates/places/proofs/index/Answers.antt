@@ -1,5 +1,4 @@
 -- `places::index` meets its contract. Assumes nothing.
-use Prim.Native.Nat.{◌-◌}
 use native.Mathlib.Omega.{arith}
 use Rattle.places.proofs.PlaceLaws.{listing_start, place_small, listing_on, listing_end}
 use Rattle.places.proofs.index.Goals as goal

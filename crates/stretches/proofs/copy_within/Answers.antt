@@ -1,6 +1,5 @@
 -- `stretches::copy_within` meets its contract. Assumes nothing.
 use mathlib.Core.Path.{refl}
-use Prim.Native.Nat.{◌-◌}
 use native.Mathlib.Omega.{arith}
 use lib.ListN.{length-set}
 use Rattle.stretches.proofs.StretchLaws.{copied_none, copied_more, ended}

@@ -1,7 +1,7 @@
 -- `stretches::zero` meets its contract. Assumes nothing.
 use mathlib.Core.Path.{refl, ap, ◌∙◌}
 use mathlib.Core.List.{List}
-use Prim.Native.Nat.{ℕ, ◌-◌}
+use Prim.Native.Nat.{ℕ}
 use native.Mathlib.Omega.{arith}
 use borrow.Author.Fill.{fill_none, fill_more}
 use lib.ListN.{set, length-set}

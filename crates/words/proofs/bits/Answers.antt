@@ -1,8 +1,5 @@
 -- `words::bits` meets its contract. Assumes nothing.
-use mathlib.Core.Path.{◌≡◌}
-use lib.IntN.{ℤ, pos, ◌+ℤ◌}
-use mir.Syntax.{w32, w64}
-use mir.Val.{to_z, of_z}
+use lib.IntN.{pos, ◌+ℤ◌}
 use Rattle.numbers.proofs.IntegerLaws.{read, read32}
 use Rattle.numbers.proofs.FitLaws.{widens}
 use Rattle.words.proofs.TwosComplement.{BitsOf, bits_of_negative, bits_of_nonnegative}

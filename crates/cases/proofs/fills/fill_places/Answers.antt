@@ -1,6 +1,5 @@
 -- `cases::fills::fill_places` meets its contract. Assumes nothing.
 use mathlib.Core.Path.{refl, ◌∙◌}
-use Prim.Native.Nat.{◌-◌}
 use Rattle.cases.proofs.FillLaws.{filling_none, filling_more, filling_all, row_same}
 use Rattle.cases.proofs.fills.fill_places.Goals as goal
 

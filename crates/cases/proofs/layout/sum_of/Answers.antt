@@ -1,6 +1,5 @@
 -- `cases::layout::sum_of` meets its contract. Assumes nothing.
 use mathlib.Core.Path.{◌≡◌}
-use Prim.Native.Nat.{◌-◌}
 use native.Mathlib.Omega.{arith}
 use Rattle.cases.proofs.RowLaws.{sum_none, sum_more}
 use Rattle.cases.proofs.layout.sum_of.Goals as goal

@@ -1,5 +1,4 @@
 -- `cases::rows::load_counts` meets its contract. Assumes nothing.
-use Prim.Native.Nat.{◌-◌}
 use Rattle.cases.specs.Rows.{numbers_at}
 use Rattle.cases.proofs.FillLaws.{filling_none, filling_more, filling_all}
 use Rattle.cases.proofs.rows.load_counts.Goals as goal

@@ -1,6 +1,5 @@
 -- `cases::rows::load_inputs` meets its contract. Assumes nothing.
 use mathlib.Core.Path.{◌∙◌}
-use Prim.Native.Nat.{◌-◌}
 use Rattle.numbers.proofs.IntegerLaws.{read32}
 use Rattle.cases.specs.Rows.{integers_at}
 use Rattle.cases.proofs.FillLaws.{filling_none, filling_more, filling_all}

@@ -1,6 +1,5 @@
 -- `ledger::entries::clear_lengths` meets its contract. Assumes nothing.
 use mathlib.Core.Path.{refl}
-use Prim.Native.Nat.{◌-◌}
 use native.Mathlib.Omega.{arith}
 use lib.ListN.{length-set}
 use Rattle.ledger.proofs.OpeningLaws.{none_zero, none_more, none_all}

@@ -1,5 +1,4 @@
 -- `ledger::entries::finish_all` meets its contract. Assumes nothing.
-use Prim.Native.Nat.{◌-◌}
 use Rattle.ledger.proofs.LedgerLaws.{go_none, go_fits, go_more, go_all}
 use Rattle.ledger.proofs.EndLaws.{finishing_bounded, finish_end}
 use Rattle.ledger.proofs.entries.finish_all.Goals as goal

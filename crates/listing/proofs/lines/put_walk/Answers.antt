@@ -1,6 +1,5 @@
 -- `listing::lines::put_walk` meets its contract. Assumes nothing.
 use mathlib.Core.Path.{◌≡◌, sym, ap, ◌∙◌}
-use Prim.Native.Nat.{◌-◌}
 use native.Mathlib.Omega.{arith}
 use Rattle.records.specs.EventLaws.{event_long}
 use Rattle.walk.specs.Walk.{event, step_answer, told}

@@ -1,6 +1,6 @@
 -- `numbers::integers::reduce` meets its contract. Assumes nothing.
 use lib.Dec.{lit<}
-use lib.IntN.{ℤ, pos, ◌+ℤ◌, ◌-ℤ◌}
+use lib.IntN.{pos, ◌+ℤ◌, ◌-ℤ◌}
 use Rattle.numbers.proofs.IntegerLaws.{read, read32}
 use Rattle.numbers.proofs.ReduceLaws.{Reduced, remainder, quotient_fits, remainder_fits, raised_fits, lowered_fits, from_below, from_above, within}
 use Rattle.numbers.proofs.integers.reduce.Goals as goal

@@ -1,6 +1,5 @@
 -- `program::check::check` meets its contract. Assumes nothing.
 use mathlib.Core.Path.{sym, ◌∙◌}
-use Prim.Native.Nat.{◌-◌}
 use native.Mathlib.Omega.{arith}
 use Rattle.program.proofs.ScanSteps.{scan_good}
 use Rattle.program.proofs.CheckLaws.{parties_good, answer_none, answer_is, answer_bad, going_start, going_bad, going_on, going_none, going_good, going_lost}

@@ -1,6 +1,5 @@
 -- `program::check::lost_call` meets its contract. Assumes nothing.
 use mathlib.Core.Path.{sym, ◌∙◌}
-use Prim.Native.Nat.{◌-◌}
 use native.Mathlib.Omega.{arith}
 use Rattle.program.proofs.ScanSteps.{scan_good}
 use Rattle.program.proofs.LostLaws.{seeking_start, seeking_end, seeking_bad, seeking_here, seeking_on}

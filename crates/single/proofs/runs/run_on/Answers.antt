@@ -1,9 +1,6 @@
 -- `single::runs::run_on` meets its contract. Assumes nothing.
 use mathlib.Core.Path.{refl, ◌∙◌}
-use mathlib.Core.List.{List}
-use Prim.Native.Nat.{ℕ, ◌-◌}
 use native.Mathlib.Omega.{arith}
-use Rattle.single_step.specs.Steps.{Lists}
 use Rattle.single.proofs.RunLaws.{going_start, stride_on, stride_end, stride_stop, goes_out}
 use Rattle.single.proofs.runs.run_on.Invariants.{lists}
 use Rattle.single.proofs.runs.run_on.Goals as goal

@@ -1,6 +1,5 @@
 -- `text::decimals::put_decimal` meets its contract. Assumes nothing.
 use mathlib.Core.Path.{refl}
-use Prim.Native.Nat.{◌-◌}
 use native.Mathlib.Omega.{arith}
 use lib.ListN.{length-set}
 use Rattle.text.specs.TextLaws.{decimal_short}

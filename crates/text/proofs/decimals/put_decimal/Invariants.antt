@@ -1,5 +1,4 @@
 -- `text::decimals::put_decimal`: what its loop keeps.
-use Prim.Native.Nat.{◌-◌}
 use Rattle.text.proofs.DecimalLaws.{Found}
 use Rattle.text.proofs.decimals.put_decimal.Given as goal
 

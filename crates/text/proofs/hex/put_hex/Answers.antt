@@ -1,5 +1,4 @@
 -- `text::hex::put_hex` meets its contract. Assumes nothing.
-use Prim.Native.Nat.{◌-◌}
 use native.Mathlib.Omega.{arith}
 use lib.ListN.{length-set}
 use Rattle.text.specs.Text.{hex}
