@@ -6,17 +6,16 @@ use mathlib.Core.List.{List, [], ◌∷◌, ◌++◌}
 use mathlib.Core.Option.{Option, none, some}
 use lib.IntN.{ℤ}
 use Rattle.parties.specs.Sets.{member}
-use Rattle.program.specs.Check.{node_at}
 use Rattle.values.specs.declared.value.Value.{Value}
 use Rattle.values.specs.declared.value.Value.TheVariants.{Nothing, Clear, Share}
 use Rattle.records.specs.Events.{finished}
 use Rattle.refusals.specs.Numbers.{no_room}
 use Rattle.records.specs.declared.events.Event.{Event}
-use Rattle.records.specs.declared.events.Event.TheVariants.{Read, Wrote, Shared, Opened, Passed, Finished, Stopped}
+use Rattle.records.specs.declared.events.Event.TheVariants.{Read, Wrote, Opened, Passed}
 use Rattle.rules.specs.Moves.{Control, Next, on, ends, full, move}
 use Rattle.rules.specs.Books.{Book, event_of, event_for, room_for, add, note}
 use Rattle.rules.specs.Single.{Setting}
-use Rattle.rules.specs.Joint.{Site, running, over, stop, land, settle, Own, acts, attends, read_own, perform_own, own, is_finished, start_all}
+use Rattle.rules.specs.Joint.{Site, stop, land, settle, Own, acts, attends, read_own, perform_own, own, is_finished, start_all}
 use Rattle.rules.specs.declared.effects.Move.{Move}
 use Rattle.rules.specs.declared.effects.Meeting.{Meeting}
 use Rattle.rules.specs.declared.effects.Meeting.TheVariants.{Sharing, Revealing}

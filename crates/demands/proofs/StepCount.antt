@@ -1,15 +1,13 @@
 -- The single run's count of steps: a run that ended after some steps had ended when it had taken so many. Assumes nothing.
 use Prim.Native.Nat.{ℕ, zero, suc, ◌+◌}
-use mathlib.Core.Path.{◌≡◌, refl, sym, ap, ◌∙◌, subst}
+use mathlib.Core.Path.{◌≡◌, refl, subst}
 use mathlib.Core.Bool.{Bool, true, false, cond}
 use mathlib.Core.List.{List, [], ◌∷◌}
 use mathlib.Core.Option.{Option}
 use native.Mathlib.Omega.{arith}
 use lib.IntN.{ℤ}
-use Rattle.program.specs.Check.{node_at}
 use Rattle.refusals.specs.Numbers.{no_room}
 use Rattle.records.specs.declared.events.Event.{Event}
-use Rattle.rules.specs.Rules.{rule}
 use Rattle.rules.specs.Moves.{Control, Next, on, ends, full, move}
 use Rattle.rules.specs.Books.{Books, room_for}
 use Rattle.rules.specs.Single.{Setting, Single, going, ended, stopped, all_of, note_all, arrive, settle_all, read_all, perform, step, after}

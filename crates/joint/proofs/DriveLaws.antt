@@ -24,7 +24,7 @@ use Rattle.ledger.proofs.OpeningLaws.{starts_at, zeros, opening_lengths, opening
 use Rattle.meets.specs.Places.{setting_of, Given, Stands, InputsStand}
 use Rattle.ends.specs.Ends.{OpensAll}
 use Rattle.ends.specs.Ends as Ends
-use Rattle.joint.specs.Runs.{told, RunsTurns, Finishes, Drives}
+use Rattle.joint.specs.Runs.{told, RunsTurns, Drives}
 use Rattle.joint.specs.declared.runs.Answer.{Answer}
 use Rattle.joint.specs.declared.runs.Answer.TheVariants.{Complete, Open}
 

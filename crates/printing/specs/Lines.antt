@@ -3,7 +3,7 @@ use Rattle.std.specs.Prelude.{ℕ, zero, suc, List, [], ◌++◌}
 use Rattle.rules.specs.Lent.{Left}
 use Rattle.rules.specs.Calls.{SingleAnswer, JointAnswer, refused, stopped_at, ended_after, budget_used, complete, still_open}
 use Rattle.invariants.specs.Left.{record_of}
-use Rattle.text.specs.Text.{ascii, decimal, hex, spaced}
+use Rattle.text.specs.Text.{ascii, decimal, spaced}
 
 -- "Every line ends in a line feed, and numbers are decimal": a line of a word and one number, or two
 unfoldable pub one_number : (word : List ℕ) → ℕ → List ℕ

@@ -1,9 +1,9 @@
 // What the programs read and lend: a slice filled from a reader, and large places of zeros.
 #![tactic(auto)]
 
-ghost use Rattle.std.specs.Prelude.{◌≡◌, ◌<◌, length, take, IfOk};
+ghost use Rattle.std.specs.Prelude.{◌≡◌, ◌<◌, length, take, IfOk, OnErr};
 ghost use Rattle.std.specs.Io.KnownBytes.{Consumes, IsAtEnd};
-ghost use Rattle.streams.specs.Counts.{IsPrefixLen};
+ghost use Rattle.streams.specs.Counts.{IsPrefixLen, CutShort};
 
 use std::io;
 use std::io::Read;
@@ -19,6 +19,7 @@ pub fn large_buffer() -> [u8; 65536]
 pub fn read_full<R: Read>(reader: &mut R, buf: &mut [u8]) -> io::Result<usize>
     ensures in_bounds { IfOk result (λ n. IsPrefixLen n buf.new) }
     ensures bytes { IfOk result (λ n. Consumes (R.remaining reader.old) (R.remaining reader.new) (take n buf.new)) }
+    ensures cut_short { OnErr result (CutShort (R.remaining reader.old) (R.remaining reader.new) buf.new) }
     ensures ended { IfOk result (λ n. n < length buf.new → IsAtEnd (R.remaining reader.new)) }
 {
     let mut done = 0;

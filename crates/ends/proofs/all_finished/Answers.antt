@@ -2,7 +2,6 @@
 use mathlib.Core.Bool.{not}
 use mathlib.Core.Path.{ap}
 use mathlib.Core.Path.{◌≡◌}
-use Prim.Native.Nat.{◌-◌}
 use native.Mathlib.Omega.{arith}
 use Rattle.ends.proofs.EndsLaws.{finish_none, finish_all, finish_more, finish_not}
 use Rattle.ends.proofs.all_finished.Goals as goal

@@ -1,6 +1,5 @@
 -- `ends::bad_turn` meets its contract. Assumes nothing.
 use mathlib.Core.Path.{sym, ◌∙◌}
-use Prim.Native.Nat.{◌-◌}
 use native.Mathlib.Omega.{arith}
 use Rattle.ends.proofs.EndsLaws.{turns_over, turn_strange, turn_late, turn_good}
 use Rattle.ends.proofs.bad_turn.Goals as goal

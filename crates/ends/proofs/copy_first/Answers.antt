@@ -1,7 +1,7 @@
 -- `ends::copy_first` meets its contract. Assumes nothing.
 use mathlib.Core.Path.{refl, ◌∙◌}
 use mathlib.Core.Logic.{inl}
-use Prim.Native.Nat.{◌+◌, ◌-◌, ◌*◌, ◌≤◌}
+use Prim.Native.Nat.{◌+◌, ◌*◌, ◌≤◌}
 use native.Mathlib.Omega.{arith}
 use lib.ListN.{length}
 use Rattle.area.specs.Rows.{row_size}

@@ -1,6 +1,5 @@
 -- `joint::runs::run_turns` meets its contract. Assumes nothing.
 use mathlib.Core.Path.{refl, ◌∙◌}
-use Prim.Native.Nat.{◌-◌}
 use native.Mathlib.Omega.{arith}
 use Rattle.sites.proofs.TurnLaws.{came_fits}
 use Rattle.joint.proofs.TurnLaws.{going_none, going_stride, going_all, rows_fit}

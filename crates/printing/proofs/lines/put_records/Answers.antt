@@ -1,5 +1,4 @@
 -- `printing::lines::put_records` meets its contract. Assumes nothing.
-use Prim.Native.Nat.{◌-◌}
 use native.Mathlib.Omega.{arith}
 use Rattle.text.specs.TextLaws.{puts_length}
 use Rattle.printing.proofs.LineLaws.{lines_none, lines_more, lines_all, part_inside, part_is, line_room}
