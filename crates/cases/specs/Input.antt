@@ -25,20 +25,20 @@ max_input = 8192
 -- What stands past the end counts as 0.
 unfoldable pub layout_of : List ℕ → Layout
 layout_of bs =
-    let programEnd = 2 + number_at 2 bs 0 in
-    let k = get_or bs programEnd 0 in
-    let countsAt = programEnd + 1 in
-    let total = sum (numbers_at 2 k bs countsAt) in
-    let inputsAt = countsAt + 2 * k in
-    let budgetAt = inputsAt + 4 * total in
+    let program_end = 2 + number_at 2 bs 0 in
+    let k = get_or bs program_end 0 in
+    let counts_at = program_end + 1 in
+    let total = sum (numbers_at 2 k bs counts_at) in
+    let inputs_at = counts_at + 2 * k in
+    let budget_at = inputs_at + 4 * total in
     record {
-      end = programEnd;
+      end = program_end;
       k = k;
-      counts = countsAt;
+      counts = counts_at;
       total = total;
-      inputs = inputsAt;
-      budget = budgetAt;
-      turns = budgetAt + 6;
+      inputs = inputs_at;
+      budget = budget_at;
+      turns = budget_at + 6;
     }
 
 -- the turn count stands after the budget

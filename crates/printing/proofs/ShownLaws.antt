@@ -17,7 +17,7 @@ use Rattle.printing.specs.Shown.{single_shown, joint_shown, single_fits, joint_f
 use Rattle.printing.proofs.LineLaws.{one_short, two_short}
 use Rattle.printing.proofs.AnswerLaws.{after_short}
 
--- with X = singleCall L budget: what `put_single` puts of the call's answer, records and lengths are the lines of what the call leaves
+-- with X = single_call L budget: what `put_single` puts of the call's answer, records and lengths are the lines of what the call leaves
 pub single_lines_lem : (n : ℕ) (X : Left SingleAnswer) (a : SingleAnswers.Answer) (rs ls w : List ℕ) → SingleRuns.Is X a rs ls w → single_lines n (single_shown a rs ls) ≡ single_lines n X
 unfolding single_lines record_lines record_of
 single_lines_lem n X a rs ls w i = rw (i.answer, i.records, i.lengths)

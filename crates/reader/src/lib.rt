@@ -1,5 +1,5 @@
 // The reader of a record keeps the bytes and a position together: a struct that holds the lent slice. Each function over it takes it apart
-// and leaves the work to a function on the slice and the number. The borrow checker covers no function over such a struct, so each is proved by hand.
+// and leaves the work to a function on the slice and the number.
 #![tactic(auto)]
 
 ghost use Rattle.std.specs.Prelude.{◌≡◌};
@@ -60,7 +60,7 @@ impl<'a> Reader<'a> {
     }
 }
 
-// For who has the bytes and a place: a reader is made there, and reads. Its parameters are plain, so a caller needs no proof by hand.
+// For who has the bytes and a place: a reader is made there, and reads.
 pub fn event_at(bytes: &[u8], at: usize) -> Step
     ensures { told result ≡ step_answer bytes.now at }
 {

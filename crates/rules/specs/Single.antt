@@ -60,7 +60,7 @@ read_all S t c b [] = stopped t no_input c.node b
 read_all S t c b (i ∷ is) = settle_all S t c b (some (Read i)) (Hand (Clear i c.mode))
 
 -- What an effect does; a write hands back 0, where 001 hands back what was written. All checks of SHARE and REVEAL are made at once here, so
--- nobody meets with empty hands (whole-sound): that case is there for the sites, and would be a value of the wrong sort.
+-- nobody meets with empty hands (whole_sound): that case is there for the sites, and would be a value of the wrong sort.
 unfoldable pub perform : Setting → ℕ → Control → Books → Effect → Single
 perform S t c b (Refuse refusal) = stopped t refusal c.node b
 perform S t c b (Goes mv) = settle_all S t c b none mv

@@ -16,8 +16,8 @@ long xs ys r s l c =
     let a = continued_in (order_of xs ys) xs ys in
     omega (arith, ap length c.bytes, length-take l (drop s a), length-drop s a, c.ends)
 
-one_run : {A : Type 0} {left : Left A} {number : ℕ} {countLeft : ℕ → ℕ} {k r r' k₁ k₂ : ℕ} {rs rs' ls ls' w w' : List ℕ}
-    → Runs (Told number countLeft) left r rs ls w k k₁ → Runs (Told number countLeft) left r' rs' ls' w' k k₂ → (r ≡ r') × (rs ≡ rs') × (ls ≡ ls') × (w ≡ w') × (k₁ ≡ k₂)
+one_run : {A : Type 0} {left : Left A} {number : ℕ} {count_left : ℕ → ℕ} {k r r' k₁ k₂ : ℕ} {rs rs' ls ls' w w' : List ℕ}
+    → Runs (Told number count_left) left r rs ls w k k₁ → Runs (Told number count_left) left r' rs' ls' w' k k₂ → (r ≡ r') × (rs ≡ rs') × (ls ≡ ls') × (w ≡ w') × (k₁ ≡ k₂)
 one_run c d =
     (c.told.number_is ∙ sym d.told.number_is, c.records ∙ sym d.records, c.lengths ∙ sym d.lengths, c.work ∙ sym d.work, c.told.count_is ∙ sym d.told.count_is)
 

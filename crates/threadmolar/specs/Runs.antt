@@ -7,9 +7,9 @@ use Rattle.threadmolar.specs.Answers.{ENDED, BUDGET, COMPLETE, OPEN, place_limit
 -- ---- both runs
 
 -- an answer is told: r is its number, and the place for the count, which held k, holds k'
-pub record Told (number : ℕ) (countLeft : ℕ → ℕ) (r k k' : ℕ) : Type 0 where
+pub record Told (number : ℕ) (count_left : ℕ → ℕ) (r k k' : ℕ) : Type 0 where
   pub number_is : r ≡ number
-  pub count_is : k' ≡ countLeft k
+  pub count_is : k' ≡ count_left k
 
 -- and the bytes rs, ls and w are what is left
 pub record Runs {A : Type 0} (T : (r k k' : ℕ) → Type 0) (left : Left A) (r : ℕ) (rs ls w : List ℕ) (k k' : ℕ) : Type 0 where

@@ -1,15 +1,15 @@
 // The single run and the joint run.
 ghost use Rattle.rules.specs.Calls.{single_call, joint_call};
-ghost use Rattle.single.specs.Runs.{told as toldSingle};
-ghost use Rattle.joint.specs.Runs.{told as toldJoint};
+ghost use Rattle.single.specs.Runs.{told as told_single};
+ghost use Rattle.joint.specs.Runs.{told as told_joint};
 ghost use Rattle.threadmolar.specs.Runs.{SingleFits, SingleTold, SingleRuns, JointFits, JointTold, JointRuns};
 
 use crate::answers::{BUDGET, COMPLETE, ENDED, OPEN, numbered};
 
 // The number of the single run's answer, with the steps put in their place.
 fn tell_single(answer: single::runs::Answer, steps: &mut u32) -> u32
-    requires { SingleFits (toldSingle answer) }
-    ensures { SingleTold (toldSingle answer) result steps.old steps.new }
+    requires { SingleFits (told_single answer) }
+    ensures { SingleTold (told_single answer) result steps.old steps.new }
 {
     match answer {
         single::runs::Answer::Refused(number, place) => numbered(number, place as u16),
@@ -47,8 +47,8 @@ pub extern "C" fn threadmolar_single(
 
 // The number of the joint run's answer, with the turns taken put in their place.
 fn tell_joint(answer: joint::runs::Answer, taken: &mut u32) -> u32
-    requires { JointFits (toldJoint answer) }
-    ensures { JointTold (toldJoint answer) result taken.old taken.new }
+    requires { JointFits (told_joint answer) }
+    ensures { JointTold (told_joint answer) result taken.old taken.new }
 {
     match answer {
         joint::runs::Answer::Refused(number, place) => numbered(number, place as u16),
