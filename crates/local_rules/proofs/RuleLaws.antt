@@ -1,10 +1,11 @@
 -- What the rules' definitions say case by case, as the code takes them apart. Assumes nothing.
 use mathlib.Core.Path.{◌≡◌, refl, ap, ◌∙◌}
-use mathlib.Core.Bool.{Bool, true, false, false≢true}
+use mathlib.Core.Bool.{Bool, true, false, cond, false≢true}
 use Prim.Native.Nat.{ℕ, ◌<◌}
 use native.Mathlib.Decide.{dec_lt}
 use native.Mathlib.Omega.{arith}
 use lib.IntN.{ℤ, pos}
+use lib.Signed.{mag}
 use mir.Syntax.{w32}
 use mir.Val.{SFits, to_z, of_z}
 use Rattle.numbers.specs.Integers.{same_integer}
@@ -22,7 +23,7 @@ use Rattle.rules.specs.Rules.{if_clear, hands_back}
 use Rattle.local_rules.specs.Handed.{clear_in}
 use Rattle.rules.specs.declared.effects.Effect.{Effect}
 use Rattle.rules.specs.declared.effects.Effect.TheVariants.{Refuse, Goes}
-use Rattle.rules.specs.declared.effects.Move.TheVariants.{Hand}
+use Rattle.rules.specs.declared.effects.Move.TheVariants.{Hand, Goto}
 use Rattle.local_rules.specs.declared.Clear.TheVariants.{Is, Not}
 
 -- who makes up a mode is one of its sixteen parties
@@ -50,6 +51,16 @@ is_zero i h e = bits_same i (pos 0) h (record { sfits = omega arith }) e
 
 pub not_zero : (i : ℤ) → (of_z w32 i ≡ 0 → ⊥) → same_integer i (pos 0) ≡ false
 not_zero i n = bits_other i (pos 0) n
+
+-- where a clear integer sends `case`
+abbrev goes : ℕ → ℕ → ℤ → Effect
+goes e1 e2 i = Goes (Goto (cond (same_integer i (pos 0)) e2 e1))
+
+pub case_zero : (h : Held) (i : ℤ) (e1 e2 : ℕ) → clear_in h ≡ Is i → mag i < 2147483648 → of_z w32 i ≡ 0 → Goes (Goto e2) ≡ if_clear h (goes e1 e2)
+case_zero h i e1 e2 e f z = (rw (is_zero i (record { sfits = f }) z)) ∙ clear_is h (goes e1 e2) i e
+
+pub case_other : (h : Held) (i : ℤ) (e1 e2 : ℕ) → clear_in h ≡ Is i → (of_z w32 i ≡ 0 → ⊥) → Goes (Goto e1) ≡ if_clear h (goes e1 e2)
+case_other h i e1 e2 e n = (rw (not_zero i n)) ∙ clear_is h (goes e1 e2) i e
 
 -- what an operation of the code hands back
 pub handed_number : (m : PartySet) (s : Bool) (f : ℤ) (n : ℤ) (v : Value) → SFits w32 n → n ≡ f → v ≡ had_by m s (to_z w32 (of_z w32 n)) → Goes (Hand v) ≡ hands_back (had_by m s f)

@@ -114,6 +114,7 @@ pub fn embed(x: Value, m: PartySet) -> Effect
     Effect::Goes(Move::Hand(Value::Share(i, m, m)))
 }
 
+#[tactic(auto, using(crate::proofs::RuleLaws::case_zero, crate::proofs::RuleLaws::case_other))]
 pub fn case(x: Value, m: PartySet, e1: u16, e2: u16) -> Effect
     ensures { result ≡ if_clear (held m x) (λ i. Effect.Goes (Move.Goto (cond (same_integer i (pos 0)) e2 e1))) }
 {

@@ -58,6 +58,7 @@ pub fn byte(p: &[u8], i: usize) -> u8
 }
 
 // One test for both bytes, so that they can be read as one.
+#[tactic(auto, using(crate::proofs::ReadLaws::number_last))]
 pub fn half(p: &[u8], i: usize) -> u16
     requires { i < 262144 }
     ensures { result ≡ number_at 2 p.now i }

@@ -1,15 +1,14 @@
--- The tests eq and lt of two integers as the code makes them, and an operation told from the others. Assumes nothing.
+-- The tests eq and lt of two integers as the code makes them. Assumes nothing.
 use mathlib.Core.Path.{◌≡◌, refl, sym, ap, ◌∙◌}
 use mathlib.Core.Bool.{Bool, true, false}
 use native.Mathlib.Omega.{arith}
 use lib.Dec.{eqb}
-use lib.IntN.{ℤ, pos, negsuc}
+use lib.IntN.{ℤ, pos, negsuc, ◌-ℤ◌}
 use lib.Signed.{lt_z}
 use mir.Syntax.{w32}
 use mir.Val.{SFits, to_z, of_z}
 use borrow.Author.Tests.{le-ltb, eq-eqb, eqb-true, eqb-false}
-use Rattle.numbers.specs.Integers.{same_integer, negative, flag, operate}
-use Rattle.numbers.specs.declared.integers.Operation.{Operation}
+use Rattle.numbers.specs.Integers.{reduced, same_integer, negative, flag, operate}
 use Rattle.numbers.specs.declared.integers.Operation.TheVariants.{Sub, Lt}
 use Rattle.numbers.proofs.IntegerLaws.{no, no', read32}
 
@@ -49,11 +48,6 @@ less_negative (pos n) true h = no' (sym h ∙ le-ltb n 0 (omega arith))
 less_negative (pos n) false h = refl
 less_negative (negsuc n) b h = h
 
-pub lt_is : (x y d : ℤ) (b : Bool) → d ≡ operate Sub x y → lt_z d (pos 0) ≡ b → flag b ≡ operate Lt x y
+pub lt_operate : (x y : ℤ) → operate Lt x y ≡ flag (lt_z (operate Sub x y) (pos 0))
 unfolding operate
-lt_is x y d b e h = ap (λ (t : Bool). flag t) (sym (less_negative d b h)) ∙ ap (λ (z : ℤ). flag (negative z)) e
-
--- ---- the operation k that was told from the others is the one o that was asked for
-pub operated : (o k : Operation) (x y r : ℤ) → SFits w32 x → SFits w32 y → SFits w32 r → o ≡ k
-    → r ≡ operate k (to_z w32 (of_z w32 x)) (to_z w32 (of_z w32 y)) → to_z w32 (of_z w32 r) ≡ operate o x y
-operated o k x y r hx hy hr eo e = read32 r hr ∙ (rw (read32 x hx, read32 y hy) at e) ∙ ap (λ (q : Operation). operate q x y) (sym eo)
+lt_operate x y = ap (λ (t : Bool). flag t) (less_negative (reduced (x -ℤ y)) (lt_z (reduced (x -ℤ y)) (pos 0)) refl)

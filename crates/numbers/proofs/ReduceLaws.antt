@@ -7,11 +7,11 @@ use native.Mathlib.Omega.{arith}
 use lib.IntN.{ℤ, pos, negsuc, neg_ℤ, ◌+ℤ◌, ◌-ℤ◌}
 use lib.Signed.{lt_z, rem_z, quot_z, mag_rem}
 use mir.Syntax.{w32, w64}
-use mir.Val.{SFits}
+use mir.Val.{SFits, to_z, of_z}
 use mir.ValLaws.{sfits_le}
 use borrow.Author.Tests.{ltb-true, ltb-false, lt-ltb, le-ltb}
 use Rattle.numbers.specs.Integers.{reduced}
-use Rattle.numbers.proofs.IntegerLaws.{no}
+use Rattle.numbers.proofs.IntegerLaws.{no, read, read32}
 use Rattle.numbers.proofs.FitLaws.{sub_mag, neg_mag}
 
 -- the remainder toward zero by 2^32
@@ -97,3 +97,39 @@ within (negsuc n) g h = negative_within (suc n % 2 ^ 32) refl g
           fits = record { sfits = omega arith };
           is = rw (m, le-ltb (2 ^ 32 - 1 - j) (2 ^ 31) (omega arith), lt-ltb (2 ^ 32 - 1 - j) (2 ^ 32) (omega arith)) (ap negsuc (omega arith));
         }
+
+-- ---- the same as the code has it: z and what it is reduced to are read from their 64 bits, and the result from its 32
+abbrev code_remainder : ℤ → ℤ
+code_remainder z = to_z w64 (of_z w64 (rem_z (to_z w64 (of_z w64 z)) (pos 4294967296)))
+
+code_is : (z : ℤ) → SFits w64 z → code_remainder z ≡ remainder z
+code_is z h = simp (read z h, read (remainder z) (remainder_fits z h))
+
+module _ (z : ℤ) (h : SFits w64 z) where
+  below : lt_z (code_remainder z) (negsuc 2147483647) ≡ true → Reduced z (remainder z +ℤ pos 4294967296)
+  below t = from_below z (rw (code_is z h) at t)
+
+  pub below_fits : lt_z (code_remainder z) (negsuc 2147483647) ≡ true → SFits w32 (to_z w64 (of_z w64 (code_remainder z +ℤ pos 4294967296)))
+  below_fits t = simp (code_is z h, read (remainder z +ℤ pos 4294967296) (raised_fits z)) (below t).fits
+
+  pub below_is : lt_z (code_remainder z) (negsuc 2147483647) ≡ true → to_z w32 (of_z w32 (to_z w64 (of_z w64 (code_remainder z +ℤ pos 4294967296)))) ≡ reduced z
+  below_is t = simp (code_is z h, read (remainder z +ℤ pos 4294967296) (raised_fits z), read32 (remainder z +ℤ pos 4294967296) (below t).fits) (below t).is
+
+  above : lt_z (pos 2147483647) (code_remainder z) ≡ true → Reduced z (remainder z -ℤ pos 4294967296)
+  above t = from_above z (rw (code_is z h) at t)
+
+  pub above_fits : lt_z (pos 2147483647) (code_remainder z) ≡ true → SFits w32 (to_z w64 (of_z w64 (code_remainder z -ℤ pos 4294967296)))
+  above_fits t = simp (code_is z h, read (remainder z -ℤ pos 4294967296) (lowered_fits z)) (above t).fits
+
+  pub above_is : lt_z (pos 2147483647) (code_remainder z) ≡ true → to_z w32 (of_z w32 (to_z w64 (of_z w64 (code_remainder z -ℤ pos 4294967296)))) ≡ reduced z
+  above_is t = simp (code_is z h, read (remainder z -ℤ pos 4294967296) (lowered_fits z), read32 (remainder z -ℤ pos 4294967296) (above t).fits) (above t).is
+
+  module _ (g : lt_z (code_remainder z) (negsuc 2147483647) ≡ false) (t : lt_z (pos 2147483647) (code_remainder z) ≡ false) where
+    inside : Reduced z (remainder z)
+    inside = within z (rw (code_is z h) at g) (rw (code_is z h) at t)
+
+    pub within_fits : SFits w32 (code_remainder z)
+    within_fits = rw (code_is z h) inside.fits
+
+    pub within_is : to_z w32 (of_z w32 (code_remainder z)) ≡ reduced z
+    within_is = rw (code_is z h, read32 (remainder z) inside.fits) inside.is

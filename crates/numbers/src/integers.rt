@@ -13,6 +13,7 @@ pub enum Operation {
 }
 
 // z reduced modulo 2^32 into -2147483648 to 2147483647.
+#[tactic(auto, using(crate::proofs::ReduceLaws::below_fits, crate::proofs::ReduceLaws::below_is, crate::proofs::ReduceLaws::above_fits, crate::proofs::ReduceLaws::above_is, crate::proofs::ReduceLaws::within_fits, crate::proofs::ReduceLaws::within_is,),)]
 pub fn reduce(z: i64) -> i32
     ensures { result ≡ reduced z }
 {
@@ -51,6 +52,7 @@ pub fn eq(x: i32, y: i32) -> i32
 }
 
 // By the sign of the reduced difference, as document 01 has it.
+#[tactic(auto, using(crate::proofs::OperationLaws::lt_operate))]
 pub fn lt(x: i32, y: i32) -> i32
     ensures { result ≡ operate Operation.Lt x y }
 {

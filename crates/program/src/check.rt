@@ -51,6 +51,7 @@ fn reach_at(program: &[u8], at: usize) -> usize
 }
 
 // The record at `at`, where the next node is numbered `own`.
+#[tactic(auto, using(crate::proofs::RecordLaws::found_full))]
 fn record_at(program: &[u8], n: u8, own: usize, at: usize) -> Found
     requires { (n ≤ max_parties) × (at < 65535) × (at < length program.now) }
     ensures { result ≡ found_at program.now n own at }

@@ -8,10 +8,11 @@ use lib.IntN.{ℤ, pos, negsuc, nat_abs, ◌+ℤ◌, ◌-ℤ◌}
 use lib.Signed.{lt_z, non_neg}
 use lib.Dec.{T}
 use mir.Syntax.{w32, w64}
-use mir.Val.{Fits, SFits}
+use mir.Val.{Fits, SFits, to_z, of_z}
+use mir.ValLaws.{to_z_pos}
 use borrow.Author.Tests.{lt-ltb, le-ltb}
 use Rattle.numbers.specs.Integers.{residue, signed}
-use Rattle.numbers.proofs.IntegerLaws.{no, no', signed_fits}
+use Rattle.numbers.proofs.IntegerLaws.{no, no', read, read32, signed_fits}
 use Rattle.numbers.proofs.FitLaws.{widens}
 
 -- y is the bits of z, as a number
@@ -38,10 +39,24 @@ pub record IntegerOf (b : ℕ) (y : ℤ) : Type 0 where
   pub fits : SFits w32 y
   pub is : y ≡ signed b
 
-pub integer_of_high : (b : ℕ) → b < 2 ^ 32 → 2 ^ 31 ≤ b → IntegerOf b (pos b -ℤ pos (2 ^ 32))
+integer_of_high : (b : ℕ) → b < 2 ^ 32 → 2 ^ 31 ≤ b → IntegerOf b (pos b -ℤ pos (2 ^ 32))
 integer_of_high b h l =
     let f : SFits w32 (pos b -ℤ pos (2 ^ 32)) = rw (le-ltb b (2 ^ 31) l) at (signed_fits b h) in
     record { wide = widens _ f; fits = f; is = rw (le-ltb b (2 ^ 31) l) }
 
-pub integer_of_low : (b : ℕ) → b < 2 ^ 31 → pos b ≡ signed b
-integer_of_low b l = rw (lt-ltb b (2 ^ 31) l)
+-- the same as the code reads b: below 2^31 by its 32 bits, and from there on by 64
+pub low_is : (b : ℕ) → b < 2147483648 → to_z w32 b ≡ signed b
+low_is b l = rw (to_z_pos w32 b l, lt-ltb b (2 ^ 31) l)
+
+module _ (b : ℕ) (h : Fits w32 b) (l : 2147483648 ≤ b) where
+  high : IntegerOf b (pos b -ℤ pos (2 ^ 32))
+  high = integer_of_high b h.fits l
+
+  pub high_wide : SFits w64 (to_z w64 b -ℤ pos 4294967296)
+  high_wide = rw (to_z_pos w64 b (omega arith)) high.wide
+
+  pub high_fits : SFits w32 (to_z w64 (of_z w64 (to_z w64 b -ℤ pos 4294967296)))
+  high_fits = simp (to_z_pos w64 b (omega arith), read _ high.wide) high.fits
+
+  pub high_is : to_z w32 (of_z w32 (to_z w64 (of_z w64 (to_z w64 b -ℤ pos 4294967296)))) ≡ signed b
+  high_is = simp (to_z_pos w64 b (omega arith), read _ high.wide, read32 _ high.fits) high.is

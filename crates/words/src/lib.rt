@@ -17,6 +17,7 @@ pub fn bits(i: i32) -> u32
 }
 
 // The integer that 32 bits stand for in two's complement.
+#[tactic(auto, using(crate::proofs::TwosComplement::low_is, crate::proofs::TwosComplement::high_wide, crate::proofs::TwosComplement::high_fits, crate::proofs::TwosComplement::high_is,),)]
 pub fn signed(b: u32) -> i32
     ensures { result ≡ signed b }
 {
