@@ -2,7 +2,6 @@
 use native.Mathlib.Omega.{arith}
 use Rattle.text.specs.TextLaws.{hex_length, puts_length}
 use Rattle.text.proofs.HexLaws.{spaced_bytes}
-use Rattle.std.proofs.Common.{rules}
 use Rattle.text.proofs.hex.put_spaced.Goals as goal
 
 pub put_hex-requires : goal.put_hex-requires
@@ -11,4 +10,4 @@ put_hex-requires c =
     omega (arith, p.end, puts_length p, hex_length c.args.bytes.now)
 
 pub returns : goal.returns
-returns c = search (rules, spaced_bytes)
+returns c = spaced_bytes _ _ _ _ _ _ _ (λ z. omega arith) c.put-end.ensures c.put_hex.ensures
