@@ -9,7 +9,7 @@ use borrow.Author.Tests.{eq-eqb, ne_eqb, lt-ltb, le-ltb}
 use lib.Count.{ones, ones_step, count_trailing_zeros, trailing_le, under}
 use lib.Dec.{eqb}
 use lib.Pow.{pow-lt, pow_mono, pow_pos}
-use Rattle.parties.specs.Sets.{bit, member, count_from, count, lowest_from, lowest, within, only, join, same_set, make_up}
+use Rattle.parties.specs.Sets.{bit, member, count_from, count, lowest_from, lowest, rest, within, only, join, same_set, make_up}
 use Rattle.parties.specs.SetLaws.{bit_high, member_join, member_only, same_set_lem}
 use Rattle.parties.specs.declared.sets.PartySet.{PartySet}
 
@@ -101,3 +101,8 @@ ones_below n h =
     let e : 1 * 2 ^ n % 2 ^ 32 ≡ 2 ^ n = shifted_one 32 n (omega arith) in
     let l : 2 ^ n ≤ 2 ^ 16 = pow_mono h in
     record { some = omega (arith, pow_pos n); fits = omega arith; is = omega arith }
+
+-- an empty set has no lowest party to lose
+pub rest_none : (s : PartySet) → s.bits ≡ 0 → s ≡ rest s
+unfolding rest
+rest_none s h = ap (λ (n : ℕ). record { bits = n }) (rw h)

@@ -65,6 +65,7 @@ impl PartySet {
     }
 
     // The set without its lowest party.
+    #[tactic(auto, using(crate::proofs::BitLaws::rest_none))]
     pub fn rest(self) -> PartySet
         ensures { result ≡ rest self }
     {

@@ -30,6 +30,7 @@ const FINISHED: u8 = 1;
 
 const RUNNING: u8 = 2;
 
+#[tactic(auto, using(crate::proofs::SeatLaws::load_finished, crate::proofs::SeatLaws::load_stopped))]
 pub fn load_seat(w: &[u8]) -> Seat
     requires { row_size ≤ length w.now }
     ensures { result ≡ seat_at w.now }

@@ -1,13 +1,13 @@
 -- Bytes put in hexadecimal, one by one. Assumes nothing.
-use mathlib.Core.Path.{refl}
+use mathlib.Core.Path.{◌≡◌, refl}
 use Prim.Native.Nat.{ℕ, ◌+◌, ◌/◌, ◌%◌, ◌≤◌, ◌<◌}
 use mathlib.Core.List.{List, [], ◌∷◌}
 use native.Mathlib.Numerals.{add-one}
 use native.Mathlib.Omega.{arith}
 use lib.ListN.{length, get_or, set, take}
 use lib.Seq.{length-take-le, take-suc, take_all}
-use Rattle.text.specs.Text.{hex_digit, hex, Puts}
-use Rattle.text.specs.TextLaws.{hex_length, hex_append, puts_then}
+use Rattle.text.specs.Text.{ascii, hex_digit, hex, spaced, Puts}
+use Rattle.text.specs.TextLaws.{hex_length, hex_append, puts_then, spaced_some}
 
 -- there is room for the next two digits
 pub hex_room : (bs x y : List ℕ) (a to i : ℕ) → i < length bs → a + length (hex bs) ≤ length x → Puts (hex (take i bs)) a to x y → to + 2 ≤ length x
@@ -22,3 +22,8 @@ hex_more bs x y a to i h p = rw (add-one i, take-suc bs i 0, hex_append (take i 
 -- all of them
 pub hex_put : (bs x y : List ℕ) (a to i : ℕ) → length bs ≤ i → Puts (hex (take i bs)) a to x y → Puts (hex bs) a to x y
 hex_put bs x y a to i k p = rw (take_all i bs) at p
+
+-- bytes after a space
+pub spaced_bytes : (bs x y z : List ℕ) (a b c : ℕ) → (length bs ≡ 0 → ⊥) → Puts (32 ∷ []) a b x y → Puts (hex bs) b c y z → Puts (spaced bs) a c x z
+unfolding ascii
+spaced_bytes bs x y z a b c h p q = rw (spaced_some bs h) (puts_then p q)

@@ -26,6 +26,7 @@ pub fn put_hex(out: &mut [u8], at: usize, bytes: &[u8]) -> usize
 }
 
 // Bytes after a space; nothing where there are none.
+#[tactic(auto, using(crate::specs::TextLaws::spaced_none))]
 pub fn put_spaced(out: &mut [u8], at: usize, bytes: &[u8]) -> usize
     requires { at + (1 + 2 * length bytes.now) ≤ length out.old }
     ensures { Puts (spaced bytes.now) at result out.old out.new }

@@ -1,13 +1,7 @@
 -- `seats::load_seat` meets its contract. Assumes nothing.
 use mathlib.Core.Path.{sym, ◌∙◌}
-use Rattle.seats.proofs.SeatLaws.{load_finished, load_stopped, load_not, load_running}
+use Rattle.seats.proofs.SeatLaws.{load_not, load_running}
 use Rattle.seats.proofs.load_seat.Goals as goal
-
-pub returns-then-how-eq-FINISHED : goal.returns-then-how-eq-FINISHED
-returns-then-how-eq-FINISHED c = load_finished c.args.w.now c.if-how-eq-FINISHED.true
-
-pub returns-then-how-ne-RUNNING : goal.returns-then-how-ne-RUNNING
-returns-then-how-ne-RUNNING c = load_stopped c.args.w.now c.if-how-eq-FINISHED.false c.if-how-ne-RUNNING.true
 
 pub returns-in_default : goal.returns-in_default
 returns-in_default c = load_not c.args.w.now c.if-how-ne-RUNNING.false (sym c.new.ensures ∙ c.in_default.is)

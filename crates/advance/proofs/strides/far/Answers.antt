@@ -11,7 +11,7 @@ strides-strode-requires c = let full = c.requires.2 in
 
 pub returns-in-Did : goal.returns-in-Did
 returns-in-Did c = let a = c.args in
-    far_did a.program.now a.nodes [] 0 a.start a.most c.strides-strode.result a.w.now _ c.requires.2 c.strides-strode.ensures c.in-Did.stand c.in-Did.came c.in-Did.is
+    far_did a.program.now a.nodes [] 0 a.start a.most c.strides-strode.result a.w.now _ c.requires.2 c.strides-strode.ensures _ _ c.in-Did.is
 
 pub returns-in-Over : goal.returns-in-Over
 returns-in-Over c = let a = c.args in
