@@ -21,6 +21,7 @@ pub enum BadTurn {
 const TURNS: usize = 65535;
 
 // The first turn that is of no party, or past the last that there may be.
+#[tactic(auto, using(crate::proofs::EndsLaws::turn_strange, crate::proofs::EndsLaws::turn_late))]
 pub fn bad_turn(turns: &[u8], n: u8) -> BadTurn
     ensures { found result ≡ bad_turn_from n 0 turns.now }
 {

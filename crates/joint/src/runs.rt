@@ -111,6 +111,7 @@ fn drive(
 }
 
 // The run where enough was lent for it, else refusal 4. After the run all of the working area is zero.
+#[tactic(auto, using(crate::proofs::CallLaws::short_by_room))]
 fn run_lent(
     program: &[u8],
     n: u8,

@@ -1,14 +1,19 @@
 -- The single call runs, and leaves what its run leaves. Assumes nothing.
-use mathlib.Core.Path.{◌≡◌, refl, sym, subst}
-use mathlib.Core.Bool.{true}
+use mathlib.Core.Path.{◌≡◌, refl, sym, subst, ◌∙◌}
+use mathlib.Core.Bool.{true, ◌&&◌}
 use mathlib.Core.List.{List}
-use Prim.Native.Nat.{ℕ, ◌≤◌}
+use Prim.Native.Nat.{ℕ, ◌/◌, ◌≤◌, ◌<◌}
+use lib.Dec.{eqb}
+use lib.IntN.{ℤ}
 use lib.ListN.{length, replicate}
 use Rattle.program.specs.Answer.{accepted, check_answer}
 use Rattle.records.specs.Events.{held_back}
 use Rattle.rules.specs.Single.{Single, after}
-use Rattle.rules.specs.Lent.{Lent, room_of, inputs_of, counts_fit, enough_lent}
+use Rattle.rules.specs.Lent.{Lent, sum, room_of, inputs_of, counts_fit, enough_lent}
 use Rattle.rules.specs.Calls.{single_left, single_of, single_call}
+use Rattle.refusals.specs.Numbers.{too_little_lent}
+use Rattle.inputs.proofs.InputLaws.{counts_fit_is}
+use Rattle.ledger.proofs.LentLaws.{short_room}
 use Rattle.ledger.proofs.CallLaws as Call
 use Rattle.single.specs.Runs.{Finishes, Drives, Is}
 use Rattle.single.specs.declared.runs.Answer.{Answer}
@@ -30,3 +35,11 @@ module _ (L : Lent) (n : ℕ) (xs ls w : List ℕ) (zero : w ≡ replicate (leng
       (λ p checks parties nodes.
       subst (λ (m : ℕ). Is (single_left m L (after (record { program = p; room = room_of m L }) (inputs_of L) budget)) a xs ls w) (sym parties)
       (finished_is a _ (d.comes p L checks parties nodes refl refl room)))
+
+-- too little room for a record, by the code's tests
+pub short_by_room : (program counts : List ℕ) (inputs : List ℤ) (records lengths work : List ℕ) (budget n k : ℕ) → check_answer program ≡ accepted n k → (eqb (length counts) n && eqb (sum counts) (length inputs)) ≡ true → length records / n < held_back
+    → Is (single_call (Call.lent program counts inputs records lengths work) budget) (Refused too_little_lent 0) records lengths work
+unfolding single_call single_of
+short_by_room program counts inputs records lengths work budget n k e f h =
+    let L : Lent = Call.lent program counts inputs records lengths work in
+    Call.call_short (single_of L budget) L n k e (sym (counts_fit_is n L) ∙ f) refl (short_room n 1 L h)

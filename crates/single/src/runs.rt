@@ -112,6 +112,7 @@ fn drive(
 }
 
 // A good program's call: refusals 2 and 4, or the run, after which all of the working area is zero.
+#[tactic(auto, using(crate::proofs::CallLaws::short_by_room))]
 fn run_good(
     program: &[u8],
     n: u8,

@@ -13,6 +13,7 @@ use std::io;
 use std::io::{Read, Write};
 
 // What is printed of a case, whole.
+#[tactic(auto, using(crate::proofs::PrintedLaws::headless_bytes))]
 fn print_case<W: Write>(
     case: &[u8],
     records: &mut [u8],

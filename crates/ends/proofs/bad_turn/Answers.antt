@@ -1,18 +1,8 @@
 -- `ends::bad_turn` meets its contract. Assumes nothing.
 use mathlib.Core.Path.{sym, ◌∙◌}
 use native.Mathlib.Omega.{arith}
-use Rattle.ends.proofs.EndsLaws.{turns_over, turn_strange, turn_late, turn_good}
+use Rattle.ends.proofs.EndsLaws.{turns_over, turn_good}
 use Rattle.ends.proofs.bad_turn.Goals as goal
-
-pub returns-then-turns-j : goal.returns-then-turns-j
-returns-then-turns-j c = let a = c.args in
-    let l = c.loop-j in
-    sym (turn_strange a.n a.turns.now l.j (omega arith) (omega arith)) ∙ l.invariant
-
-pub returns-then-j-ge-TURNS : goal.returns-then-j-ge-TURNS
-returns-then-j-ge-TURNS c = let a = c.args in
-    let l = c.loop-j in
-    sym (turn_late a.n a.turns.now l.j (omega arith) (omega arith)) ∙ l.invariant
 
 pub loop-j-preserved : goal.loop-j-preserved
 loop-j-preserved c = let a = c.args in

@@ -9,7 +9,7 @@ use Rattle.rules.specs.Calls.{single_of, single_call}
 use Rattle.area.specs.Rows.{row_size}
 use Rattle.invariants.proofs.LeftLaws.{rooms_within}
 use Rattle.inputs.proofs.InputLaws.{counts_fit_is}
-use Rattle.ledger.proofs.LentLaws.{bounds, short_room, short_places, short_work, enough, fit_parts}
+use Rattle.ledger.proofs.LentLaws.{bounds, short_places, short_work, enough, fit_parts}
 use Rattle.ledger.proofs.CallLaws.{lent, call_counts, call_short}
 use Rattle.single.proofs.CallLaws.{call_runs}
 use Rattle.single.proofs.runs.run_good.Goals as goal
@@ -17,23 +17,17 @@ use Rattle.single.proofs.runs.run_good.Goals as goal
 pub nonzero_div-room : goal.nonzero_div-room
 nonzero_div-room c = omega (arith, (bounds _ _ _ c.requires).some_party)
 
-pub returns-then-room-lt-MAX : goal.returns-then-room-lt-MAX
-unfolding single_call single_of
-returns-then-room-lt-MAX c = let a = c.args in
-    let L : Lent = lent a.program.now a.counts.now a.inputs.now a.bytes.now a.lengths.now a.work.now in
-    call_short (single_of L a.budget) L a.n a.nodes c.requires (sym (counts_fit_is a.n L) ∙ sym c.counts_fit.ensures ∙ c.if-counts_fit.true) refl (short_room a.n 1 L c.if-room-lt-MAX.true)
-
 pub returns-then-lengths-parties : goal.returns-then-lengths-parties
 unfolding single_call single_of
 returns-then-lengths-parties c = let a = c.args in
     let L : Lent = lent a.program.now a.counts.now a.inputs.now a.bytes.now a.lengths.now a.work.now in
-    call_short (single_of L a.budget) L a.n a.nodes c.requires (sym (counts_fit_is a.n L) ∙ sym c.counts_fit.ensures ∙ c.if-counts_fit.true) refl (short_places a.n 1 L c.if-room-lt-MAX.false c.if-lengths-parties.true)
+    call_short (single_of L a.budget) L a.n a.nodes c.requires (sym (counts_fit_is a.n L) ∙ sym c.counts_fit.ensures ∙ c.if-counts_fit.true) refl (short_places a.n 1 L (omega arith) c.if-lengths-parties.true)
 
 pub returns-then-work-lt-AREA : goal.returns-then-work-lt-AREA
 unfolding single_call single_of
 returns-then-work-lt-AREA c = let a = c.args in
     let L : Lent = lent a.program.now a.counts.now a.inputs.now a.bytes.now a.lengths.now a.work.now in
-    call_short (single_of L a.budget) L a.n a.nodes c.requires (sym (counts_fit_is a.n L) ∙ sym c.counts_fit.ensures ∙ c.if-counts_fit.true) refl (short_work a.n 1 L c.if-room-lt-MAX.false c.if-lengths-parties.false c.if-work-lt-AREA.true)
+    call_short (single_of L a.budget) L a.n a.nodes c.requires (sym (counts_fit_is a.n L) ∙ sym c.counts_fit.ensures ∙ c.if-counts_fit.true) refl (short_work a.n 1 L (omega arith) c.if-lengths-parties.false c.if-work-lt-AREA.true)
 
 pub slice_bounds-drive-end : goal.slice_bounds-drive-end
 slice_bounds-drive-end c = omega (arith, c.if-work-lt-AREA.false)
@@ -52,7 +46,7 @@ unfolding room_of
 returns-then-counts_fit c = let a = c.args in
     let L : Lent = lent a.program.now a.counts.now a.inputs.now a.bytes.now a.lengths.now a.work.now in
     call_runs L a.n _ _ _ (c.zero.ensures ∙ ap (λ (i : ℕ). replicate i 0) c.work-1.given.1) a.budget a.nodes _ c.requires (sym (counts_fit_is a.n L) ∙ sym c.counts_fit.ensures ∙ c.if-counts_fit.true)
-    (enough a.n 1 L c.if-room-lt-MAX.false c.if-lengths-parties.false c.if-work-lt-AREA.false) c.if-room-lt-MAX.false c.drive-answer.ensures
+    (enough a.n 1 L (omega arith) c.if-lengths-parties.false c.if-work-lt-AREA.false) (omega arith) c.drive-answer.ensures
 
 pub returns : goal.returns
 unfolding single_call single_of
