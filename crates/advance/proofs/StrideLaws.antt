@@ -132,6 +132,11 @@ pub turn_fits : (joint : Bool) (ts : List ℕ) (first most long : ℕ) → RowsF
     → P * row_size + row_size ≤ long
 turn_fits joint ts first most long fit enough k P few is = rw is (fit (first + k) (λ h. let l : first + most ≤ length ts = enough h in omega arith))
 
+-- and is there as long as the rows keep their length
+pub row_there : (joint : Bool) (ts : List ℕ) (first most : ℕ) (w w' : List ℕ) → RowsFit joint ts (length w) → (joint ≡ true → first + most ≤ length ts) → (k P : ℕ) → k < most → P ≡ whose joint ts (first + k)
+    → length w' ≡ length w → P * row_size + row_size ≤ length w'
+row_there joint ts first most w w' fit enough k P few is same = rw same (turn_fits joint ts first most (length w) fit enough k P few is)
+
 pub back_length : (P : ℕ) (xs ys : List ℕ) → P * row_size + row_size ≤ length xs → length ys ≡ row_size → length (back row_size P xs ys) ≡ length xs
 back_length P xs ys fits long =
     let before : length (take (P * row_size) xs) ≡ P * row_size = length-take-le (P * row_size) xs (omega arith) in

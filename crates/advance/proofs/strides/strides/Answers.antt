@@ -1,11 +1,9 @@
 -- `advance::strides::strides` meets its contract. Assumes nothing.
-use mathlib.Core.Path.{◌≡◌, refl, sym, ◌∙◌}
-use Prim.Native.Nat.{◌+◌, ◌*◌, ◌≤◌}
+use mathlib.Core.Path.{refl, sym, ◌∙◌}
 use native.Mathlib.Omega.{arith}
-use lib.ListN.{length}
-use Rattle.area.specs.Rows.{row_size, area_of}
+use Rattle.area.specs.Rows.{row_size}
 use Rattle.area.proofs.RowLaws.{row_length}
-use Rattle.advance.proofs.StrideLaws.{led_none, turn_fits, turn_on, turn_last}
+use Rattle.advance.proofs.StrideLaws.{led_none, row_there, turn_on, turn_last}
 use Rattle.advance.proofs.strides.strides.Goals as goal
 
 pub loop-next-init : goal.loop-next-init
@@ -17,15 +15,14 @@ whose-p-requires c = λ h. omega (arith, c.loop-next.invariant.0, c.requires.1 h
 
 pub slice_bounds-in_row-end : goal.slice_bounds-in_row-end
 slice_bounds-in_row-end c =
-    let fits : (c.whose-p.result * row_size + row_size ≤ length c.loop-next.work) = let a = c.args in
-    omega (arith, c.loop-next.invariant.2, turn_fits a.joint a.turns.now a.first a.most (length a.work.now) c.requires.4 c.requires.1 c.loop-next.k c.whose-p.result c.loop-next.invariant.0 c.whose-p.ensures) in
-    fits
+    let a = c.args in
+    row_there a.joint a.turns.now a.first a.most a.work.now c.loop-next.work c.requires.4 c.requires.1 c.loop-next.k c.whose-p.result c.loop-next.invariant.0 c.whose-p.ensures c.loop-next.invariant.2
 
 pub in_row-came-requires : goal.in_row-came-requires
 in_row-came-requires c =
-    let fits : (c.whose-p.result * row_size + row_size ≤ length c.loop-next.work) = let a = c.args in
-    omega (arith, c.loop-next.invariant.2, turn_fits a.joint a.turns.now a.first a.most (length a.work.now) c.requires.4 c.requires.1 c.loop-next.k c.whose-p.result c.loop-next.invariant.0 c.whose-p.ensures) in
-    let lent : (length (area_of c.whose-p.result c.loop-next.work) ≡ row_size) = row_length row_size c.whose-p.result c.loop-next.work fits in
+    let a = c.args in
+    let fits = row_there a.joint a.turns.now a.first a.most a.work.now c.loop-next.work c.requires.4 c.requires.1 c.loop-next.k c.whose-p.result c.loop-next.invariant.0 c.whose-p.ensures c.loop-next.invariant.2 in
+    let lent = row_length row_size c.whose-p.result c.loop-next.work fits in
     (c.loop-next.invariant.1, omega (arith, lent), c.requires.5)
 
 pub leads-requires : goal.leads-requires
@@ -33,10 +30,9 @@ leads-requires c = tt
 
 pub returns-in_default : goal.returns-in_default
 returns-in_default c =
-    let fits : (c.whose-p.result * row_size + row_size ≤ length c.loop-next.work) = let a = c.args in
-    omega (arith, c.loop-next.invariant.2, turn_fits a.joint a.turns.now a.first a.most (length a.work.now) c.requires.4 c.requires.1 c.loop-next.k c.whose-p.result c.loop-next.invariant.0 c.whose-p.ensures) in
-    let lent : (length (area_of c.whose-p.result c.loop-next.work) ≡ row_size) = row_length row_size c.whose-p.result c.loop-next.work fits in
-    let a = c.args in (
+    let a = c.args in
+    let fits = row_there a.joint a.turns.now a.first a.most a.work.now c.loop-next.work c.requires.4 c.requires.1 c.loop-next.k c.whose-p.result c.loop-next.invariant.0 c.whose-p.ensures c.loop-next.invariant.2 in
+    let lent = row_length row_size c.whose-p.result c.loop-next.work fits in (
       c.loop-next.invariant.0,
       c.loop-next.t,
       c.loop-next.work,
@@ -46,10 +42,9 @@ returns-in_default c =
 
 pub returns-then-k-last : goal.returns-then-k-last
 returns-then-k-last c =
-    let fits : (c.whose-p.result * row_size + row_size ≤ length c.loop-next.work) = let a = c.args in
-    omega (arith, c.loop-next.invariant.2, turn_fits a.joint a.turns.now a.first a.most (length a.work.now) c.requires.4 c.requires.1 c.loop-next.k c.whose-p.result c.loop-next.invariant.0 c.whose-p.ensures) in
-    let lent : (length (area_of c.whose-p.result c.loop-next.work) ≡ row_size) = row_length row_size c.whose-p.result c.loop-next.work fits in
-    let a = c.args in (
+    let a = c.args in
+    let fits = row_there a.joint a.turns.now a.first a.most a.work.now c.loop-next.work c.requires.4 c.requires.1 c.loop-next.k c.whose-p.result c.loop-next.invariant.0 c.whose-p.ensures c.loop-next.invariant.2 in
+    let lent = row_length row_size c.whose-p.result c.loop-next.work fits in (
       c.loop-next.invariant.0,
       c.loop-next.t,
       c.loop-next.work,
@@ -65,10 +60,9 @@ loop-next-smaller c = omega (arith, c.loop-next.invariant.0)
 
 pub loop-next-preserved : goal.loop-next-preserved
 loop-next-preserved c =
-    let fits : (c.whose-p.result * row_size + row_size ≤ length c.loop-next.work) = let a = c.args in
-    omega (arith, c.loop-next.invariant.2, turn_fits a.joint a.turns.now a.first a.most (length a.work.now) c.requires.4 c.requires.1 c.loop-next.k c.whose-p.result c.loop-next.invariant.0 c.whose-p.ensures) in
-    let lent : (length (area_of c.whose-p.result c.loop-next.work) ≡ row_size) = row_length row_size c.whose-p.result c.loop-next.work fits in
     let a = c.args in
+    let fits = row_there a.joint a.turns.now a.first a.most a.work.now c.loop-next.work c.requires.4 c.requires.1 c.loop-next.k c.whose-p.result c.loop-next.invariant.0 c.whose-p.ensures c.loop-next.invariant.2 in
+    let lent = row_length row_size c.whose-p.result c.loop-next.work fits in
     let on = turn_on a.joint a.turns.now a.program.now a.nodes a.first c.loop-next.t c.loop-next.work c.loop-next.k c.whose-p.result c.whose-p.ensures c.in_row-came.result c.in_row-came.new.w c.in_row-came.ensures (c.in_row-came.auto.w ∙ lent)
     a.start a.work.now c.loop-next.invariant.3 c.in-To.next (sym c.in-To.is ∙ c.leads.ensures) in
     (omega (arith, c.loop-next.invariant.0, c.if-k-last.false), on.0, c.work-1.given.1 ∙ c.loop-next.invariant.2, on.1)

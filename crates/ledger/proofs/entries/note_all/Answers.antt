@@ -3,10 +3,9 @@ use mathlib.Core.Bool.{not}
 use mathlib.Core.Path.{ap, ◌∙◌}
 use native.Mathlib.Omega.{arith}
 use Rattle.parties.specs.Sets.{meet}
-use Rattle.parties.proofs.LoopLaws.{Here, left_start, left_here, left_next, left_over, left_falls}
+use Rattle.parties.proofs.LoopLaws.{left_start, left_here, left_next, left_over, left_falls}
 use Rattle.ledger.proofs.RevealLaws.{WorkedOut, all_below}
-use Rattle.ledger.proofs.WriteLaws.{noting}
-use Rattle.ledger.proofs.LedgerLaws.{Going, go_none, go_fits}
+use Rattle.ledger.proofs.LedgerLaws.{go_none, go_fits}
 use Rattle.ledger.proofs.EndLaws.{note_out, note_fits, note_more, note_end}
 use Rattle.ledger.proofs.entries.note_all.Goals as goal
 
@@ -18,26 +17,21 @@ loop-e-init c =
 pub note_one-requires : goal.note_one-requires
 note_one-requires c =
     let worked-out : (let a = c.args in WorkedOut a.n a.m a.e c.meet-left.result c.writers-those.result c.passed-other.result) = record { members = c.meet-left.ensures ∙ ap (meet c.args.m) c.all.ensures; whole = c.writers-those.ensures; passing = c.passed-other.ensures } in
-    let here : (let a = c.args in let s = c.meet-left.result in let l = c.loop-e in
-    Here s a.n (λ k. Going a.room a.n (noting s c.writers-those.result a.e c.passed-other.result) a.bytes.now a.lengths.now k l.bytes l.lengths) l.left c.lowest-p.result) = left_here _ _ (omega arith) c.loop-e.invariant c.is_empty.ensures (all_below worked-out) (ap not c.loop-e-test.true) c.lowest-p.ensures in
-    let at_p = here in
-    let (bytes, lengths) = go_fits at_p.so_far at_p.below c.requires.1 c.requires.2 in
-    (bytes, lengths, note_fits worked-out _ at_p.below at_p.so_far c.requires.3 at_p.inside)
+    let here = left_here _ _ (omega arith) c.loop-e.invariant c.is_empty.ensures (all_below worked-out) (ap not c.loop-e-test.true) c.lowest-p.ensures in
+    let (bytes, lengths) = go_fits here.so_far here.below c.requires.1 c.requires.2 in
+    (bytes, lengths, note_fits worked-out _ here.below here.so_far c.requires.3 here.inside)
 
 pub loop-e-smaller : goal.loop-e-smaller
 loop-e-smaller c =
     let worked-out : (let a = c.args in WorkedOut a.n a.m a.e c.meet-left.result c.writers-those.result c.passed-other.result) = record { members = c.meet-left.ensures ∙ ap (meet c.args.m) c.all.ensures; whole = c.writers-those.ensures; passing = c.passed-other.ensures } in
-    let here : (let a = c.args in let s = c.meet-left.result in let l = c.loop-e in
-    Here s a.n (λ k. Going a.room a.n (noting s c.writers-those.result a.e c.passed-other.result) a.bytes.now a.lengths.now k l.bytes l.lengths) l.left c.lowest-p.result) = left_here _ _ (omega arith) c.loop-e.invariant c.is_empty.ensures (all_below worked-out) (ap not c.loop-e-test.true) c.lowest-p.ensures in
+    let here = left_here _ _ (omega arith) c.loop-e.invariant c.is_empty.ensures (all_below worked-out) (ap not c.loop-e-test.true) c.lowest-p.ensures in
     left_falls _ _ here c.rest-left.ensures
 
 pub loop-e-preserved : goal.loop-e-preserved
 loop-e-preserved c =
     let worked-out : (let a = c.args in WorkedOut a.n a.m a.e c.meet-left.result c.writers-those.result c.passed-other.result) = record { members = c.meet-left.ensures ∙ ap (meet c.args.m) c.all.ensures; whole = c.writers-those.ensures; passing = c.passed-other.ensures } in
-    let here : (let a = c.args in let s = c.meet-left.result in let l = c.loop-e in
-    Here s a.n (λ k. Going a.room a.n (noting s c.writers-those.result a.e c.passed-other.result) a.bytes.now a.lengths.now k l.bytes l.lengths) l.left c.lowest-p.result) = left_here _ _ (omega arith) c.loop-e.invariant c.is_empty.ensures (all_below worked-out) (ap not c.loop-e-test.true) c.lowest-p.ensures in
-    let at_p = here in
-    left_next _ _ at_p c.rest-left.ensures (λ k h o g. note_out worked-out _ h g o) (note_more worked-out _ at_p.below at_p.so_far c.requires.3 at_p.inside c.note_one.ensures)
+    let here = left_here _ _ (omega arith) c.loop-e.invariant c.is_empty.ensures (all_below worked-out) (ap not c.loop-e-test.true) c.lowest-p.ensures in
+    left_next _ _ here c.rest-left.ensures (λ k h o g. note_out worked-out _ h g o) (note_more worked-out _ here.below here.so_far c.requires.3 here.inside c.note_one.ensures)
 
 pub returns : goal.returns
 returns c =
