@@ -1,4 +1,5 @@
 -- A cell in bytes: what is stored is read back, and what is read goes by the cell's bytes alone. Assumes nothing.
+use Rattle.std.specs.Prelude.{Option, Some, None}
 use mathlib.Core.Path.{◌≡◌, refl, ap, ◌∙◌}
 use mathlib.Core.List.{List, [], ◌∷◌, ◌++◌}
 use Prim.Native.Nat.{ℕ, ◌+◌, ◌≤◌, ◌<◌}
@@ -18,9 +19,8 @@ use Rattle.parties.specs.Sets.{none}
 use Rattle.parties.specs.SetBytes.{set_bytes, set_at}
 use Rattle.parties.specs.declared.sets.PartySet.{PartySet}
 use Rattle.cells.specs.Cells.{width, cell, cell_bytes, cell_at, Ranged}
+use Rattle.values.specs.declared.value.Value.{Value}
 use Rattle.values.specs.declared.value.Value.TheVariants.{Nothing, Clear, Share}
-use Rattle.cells.specs.declared.Bound.{Bound}
-use Rattle.cells.specs.declared.Bound.TheVariants.{Unbound, To}
 
 -- four runs of stores are one cell
 pub cell_written : (xs x1 x2 x3 : List ℕ) (at sort : ℕ) (i : ℤ) (l h : PartySet) → SFits w32 i → x1 ≡ sets (set xs at sort) (at + 1) (integer_bytes (to_z w32 (of_z w32 i)))
@@ -28,12 +28,12 @@ pub cell_written : (xs x1 x2 x3 : List ℕ) (at sort : ℕ) (i : ℤ) (l h : Par
 unfolding low_first
 cell_written xs x1 x2 x3 at sort i l h hi e1 e2 e3 = rw (e3, e2, e1, read32 i hi) (simp towards_suc)
 
-pub cell_length : (b : Bound) → length (cell_bytes b) ≡ width
+pub cell_length : (b : Option Value) → length (cell_bytes b) ≡ width
 unfolding cell_bytes low_first
-cell_length Unbound = refl
-cell_length (To Nothing) = refl
-cell_length (To (Clear i l)) = refl
-cell_length (To (Share i h l)) = refl
+cell_length None = refl
+cell_length (Some Nothing) = refl
+cell_length (Some (Clear i l)) = refl
+cell_length (Some (Share i h l)) = refl
 
 -- the cell read at one place is that read at another, where the bytes are the same
 pub cell_same : (xs : List ℕ) (at : ℕ) (ys : List ℕ) (to : ℕ) → ((k : ℕ) → k < width → get_or xs (at + k) 0 ≡ get_or ys (to + k) 0) → cell_at xs at ≡ cell_at ys to
@@ -58,15 +58,15 @@ module _ (sort : ℕ) (i : ℤ) (l h : PartySet) where
   unfolding low_first
   holders_of r = ap (λ (n : ℕ). record { bits = n }) (number_in 2 h.bits (sort ∷ (integer_bytes i ++ set_bytes l)) [] r)
 
-alone : (b : Bound) → Ranged b → cell_at (cell_bytes b) 0 ≡ b
+alone : (b : Option Value) → Ranged b → cell_at (cell_bytes b) 0 ≡ b
 unfolding cell_at cell_bytes
-alone Unbound r = refl
-alone (To Nothing) r = refl
-alone (To (Clear i l)) r = rw (integer_of 2 i l none r.0, place_of 2 i l none r.1)
-alone (To (Share i h l)) r = rw (integer_of 3 i l h r.0, place_of 3 i l h r.1, holders_of 3 i l h r.2)
+alone None r = refl
+alone (Some Nothing) r = refl
+alone (Some (Clear i l)) r = rw (integer_of 2 i l none r.0, place_of 2 i l none r.1)
+alone (Some (Share i h l)) r = rw (integer_of 3 i l h r.0, place_of 3 i l h r.1, holders_of 3 i l h r.2)
 
 -- what was stored is read back
-pub cell_back : (b : Bound) (xs : List ℕ) (at : ℕ) → Ranged b → at + width ≤ length xs → cell_at (sets xs at (cell_bytes b)) at ≡ b
+pub cell_back : (b : Option Value) (xs : List ℕ) (at : ℕ) → Ranged b → at + width ≤ length xs → cell_at (sets xs at (cell_bytes b)) at ≡ b
 cell_back b xs at r f =
     cell_same (sets xs at (cell_bytes b)) at (cell_bytes b) 0 (λ k h. sets_at (cell_bytes b) xs at k (rw (cell_length b) h) (rw (cell_length b) f) ∙ rw zero-add)
     ∙ alone b r

@@ -2,59 +2,51 @@
 // A cell of zeros is unbound, so a zeroed level of names has none bound.
 #![tactic(auto)]
 
-ghost use Rattle.std.specs.Prelude.{◌≡◌, Bool, ◌+◌, ◌≤◌, length};
+ghost use Rattle.std.specs.Prelude.{◌≡◌, Bool, ◌+◌, ◌≤◌, Some, length};
 ghost use Rattle.std.proofs.lemmas.List.Edits.{sets};
 ghost use Rattle.cells.specs.Cells.{width, cell, cell_bytes, cell_at, RangedValue, Ranged};
 
 use parties::sets::PartySet;
 use values::value::Value;
 
-// Unbound is not nothing: a name may be bound to nothing.
-#[derive(Clone, Copy)]
-pub enum Bound {
-    Unbound,
-    To(Value),
+// The bytes of a cell.
+pub const WIDTH: usize = 9;
+
+// What the cell at a place holds; none is unbound. Unbound is not nothing: a name may be bound to nothing.
+pub fn load(s: &[u8], at: usize) -> Option<Value>
+    requires { at + width ≤ length s.now }
+    ensures { result ≡ cell_at s.now at }
+{
+    let sort = s[at];
+    if sort == 0 {
+        return None;
+    }
+    if sort == 1 {
+        return Some(Value::Nothing);
+    }
+    let i = words::load_integer(s, at + 1);
+    let l = parties::bytes::load_set(s, at + 5);
+    if sort == 2 {
+        return Some(Value::Clear(i, l));
+    }
+    let h = parties::bytes::load_set(s, at + 7);
+    Some(Value::Share(i, h, l))
 }
 
-impl Bound {
-    // The bytes of a cell.
-    pub const WIDTH: usize = 9;
-
-    pub fn load(s: &[u8], at: usize) -> Bound
-        requires { at + width ≤ length s.now }
-        ensures { result ≡ cell_at s.now at }
-    {
-        let sort = s[at];
-        if sort == 0 {
-            return Bound::Unbound;
-        }
-        if sort == 1 {
-            return Bound::To(Value::Nothing);
-        }
-        let i = words::load_integer(s, at + 1);
-        let l = parties::bytes::load_set(s, at + 5);
-        if sort == 2 {
-            return Bound::To(Value::Clear(i, l));
-        }
-        let h = parties::bytes::load_set(s, at + 7);
-        Bound::To(Value::Share(i, h, l))
-    }
-
-    pub fn store(self, s: &mut [u8], at: usize)
-        requires { at + width ≤ length s.old }
-        ensures s_after { s.new ≡ sets s.old at (cell_bytes self) }
-        ensures ranged { Ranged self }
-    {
-        match self {
-            Bound::Unbound => store_cell(s, at, 0, 0, PartySet { bits: 0 }, PartySet { bits: 0 }),
-            Bound::To(v) => store_value(s, at, v),
-        }
+pub fn store(bound: Option<Value>, s: &mut [u8], at: usize)
+    requires { at + width ≤ length s.old }
+    ensures s_after { s.new ≡ sets s.old at (cell_bytes bound) }
+    ensures ranged { Ranged bound }
+{
+    match bound {
+        None => store_cell(s, at, 0, 0, PartySet { bits: 0 }, PartySet { bits: 0 }),
+        Some(v) => store_value(s, at, v),
     }
 }
 
 fn store_value(s: &mut [u8], at: usize, v: Value)
     requires { at + width ≤ length s.old }
-    ensures s_after { s.new ≡ sets s.old at (cell_bytes (Bound.To v)) }
+    ensures s_after { s.new ≡ sets s.old at (cell_bytes (Some v)) }
     ensures ranged_value { RangedValue v }
 {
     match v {

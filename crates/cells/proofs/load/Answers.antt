@@ -1,8 +1,8 @@
--- `cells::Bound::load` meets its contract. Assumes nothing.
+-- `cells::load` meets its contract. Assumes nothing.
 use borrow.Author.Tests.{ne_eqb}
 use Rattle.numbers.proofs.IntegerLaws.{read32}
 use Rattle.cells.specs.Cells.{cell_at}
-use Rattle.cells.proofs.Bound.load.Goals as goal
+use Rattle.cells.proofs.load.Goals as goal
 
 pub returns-then-sort-eq0 : goal.returns-then-sort-eq0
 unfolding cell_at
