@@ -1,4 +1,5 @@
 -- What a rule asks for is in range, where the node, the mode and the bound values are. Assumes nothing.
+use Rattle.std.specs.Prelude.{Option, Some, None, option_map}
 use mathlib.Core.Path.{◌≡◌, subst}
 use mathlib.Core.Bool.{Bool, true, false, ◌&&◌, cond}
 use mathlib.Core.List.{List, [], ◌∷◌}
@@ -21,12 +22,10 @@ use Rattle.values.specs.declared.value.Value.{Value}
 use Rattle.values.specs.declared.value.Value.TheVariants.{Nothing, Clear, Share}
 use Rattle.values.specs.declared.value.Held.{Held}
 use Rattle.values.specs.declared.value.Held.TheVariants.{Number, Other}
-use Rattle.cells.specs.declared.Bound.{Bound}
-use Rattle.cells.specs.declared.Bound.TheVariants.{Unbound, To}
 use Rattle.nodes.specs.Nodes.{operation_of}
 use Rattle.nodes.specs.declared.Node.{Node}
 use Rattle.nodes.specs.declared.Node.TheVariants.{VAR, INT, OP, MUX, READ, WRITE, EMBED, SHARE, REVEAL, LET, CASE, PAR, CALL}
-use Rattle.rules.specs.Names.{Names, restricted, look, Looked, found, unbound, before, look_all, names_of}
+use Rattle.rules.specs.Names.{Names, look, Looked, found, unbound, before, look_all, names_of}
 use Rattle.rules.specs.Rules.{mux, rule}
 use Rattle.rules.specs.RuleLaws.{OfKind, at_site, rule_holds}
 use Rattle.rules.specs.declared.effects.View.{View}
@@ -72,11 +71,11 @@ slice_ranged P v r = go (member P (place v))
 
 look_ranged : (m : PartySet) (b : Names) (x : Name) → RangedNames b → Cells.Ranged (look m b x)
 unfolding look
-look_ranged m b x r = go (get_or b x.index Unbound) (every_at Cells.Ranged b x.index Unbound r tt)
+look_ranged m b x r = go (get_or b x.index None) (every_at Cells.Ranged b x.index None r tt)
   where
-    go : (y : Bound) → Cells.Ranged y → Cells.Ranged (restricted m y)
-    go Unbound h = tt
-    go (To v) h = restrict_ranged m v h
+    go : (y : Option Value) → Cells.Ranged y → Cells.Ranged (option_map (restrict m) y)
+    go None h = tt
+    go (Some v) h = restrict_ranged m v h
 
 abbrev RangedLooked : Looked → Type 0
 RangedLooked (found vs) = Every RangedValue vs
@@ -87,10 +86,10 @@ unfolding look_all
 looked_ranged m b [] r = tt
 looked_ranged m b (x ∷ xs) r = go (look m b x) (look_all m b xs) (look_ranged m b x r) (looked_ranged m b xs r)
   where
-    go : (y : Bound) (l : Looked) → Cells.Ranged y → RangedLooked l → RangedLooked (before x y l)
-    go Unbound l h g = tt
-    go (To v) (found vs) h g = (h, g)
-    go (To v) (unbound z) h g = tt
+    go : (y : Option Value) (l : Looked) → Cells.Ranged y → RangedLooked l → RangedLooked (before x y l)
+    go None l h g = tt
+    go (Some v) (found vs) h g = (h, g)
+    go (Some v) (unbound z) h g = tt
 
 -- ---- rules
 

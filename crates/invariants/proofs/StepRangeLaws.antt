@@ -1,4 +1,5 @@
 -- A step keeps a run in range: moves, books, a site's own step and meeting, and a step of the single run. Assumes nothing.
+use Rattle.std.specs.Prelude.{Some, None}
 use mathlib.Core.Path.{◌≡◌}
 use mathlib.Core.Bool.{Bool, true, false, cond}
 use mathlib.Core.List.{List, [], ◌∷◌, ◌++◌}
@@ -19,7 +20,6 @@ use Rattle.cells.specs.Cells.{RangedValue}
 use Rattle.cells.specs.Cells as Cells
 use Rattle.values.specs.declared.value.Value.{Value}
 use Rattle.values.specs.declared.value.Value.TheVariants.{Clear}
-use Rattle.cells.specs.declared.Bound.TheVariants.{Unbound, To}
 use Rattle.program.specs.Check.{node_at}
 use Rattle.refusals.specs.Numbers.{no_input, no_room, too_deep, disagreement}
 use Rattle.records.specs.Events.{finished}
@@ -50,11 +50,11 @@ use Rattle.invariants.proofs.RuleRangeLaws.{slice_ranged, rule_ranged}
 
 pub none_ranged : RangedNames none_bound
 unfolding none_bound
-none_ranged = every_replicate Cells.Ranged max_names Unbound tt
+none_ranged = every_replicate Cells.Ranged max_names None tt
 
 bind_ranged : (x : Name) (v : Value) (b : Names) → RangedValue v → RangedNames b → RangedNames (bind x v b)
 unfolding bind
-bind_ranged x v b r n = every_set Cells.Ranged b x.index (To v) n r
+bind_ranged x v b r n = every_set Cells.Ranged b x.index (Some v) n r
 
 back_ranged : (v : Value) (fs : List Frame) → RangedValue v → Every RangedFrame fs → RangedNext (hand_back v fs)
 unfolding hand_back

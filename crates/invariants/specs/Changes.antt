@@ -1,17 +1,11 @@
 -- A change of every value that names are bound to: a party's slices are such a change, and so is to hide numbers.
-use Rattle.std.specs.Prelude.{map}
+use Rattle.std.specs.Prelude.{map, option_map}
 use Rattle.values.specs.declared.value.Value.{Value}
-use Rattle.cells.specs.declared.Bound.{Bound}
-use Rattle.cells.specs.declared.Bound.TheVariants.{Unbound, To}
 use Rattle.rules.specs.Names.{Names, Looked, found, unbound}
 use Rattle.rules.specs.Moves.{Frame}
 
-abbrev pub on_bound : (Value → Value) → Bound → Bound
-on_bound f Unbound = Unbound
-on_bound f (To v) = To (f v)
-
 abbrev pub on_names : (Value → Value) → Names → Names
-on_names f b = map (on_bound f) b
+on_names f b = map (option_map f) b
 
 abbrev pub on_looked : (Value → Value) → Looked → Looked
 on_looked f (found vs) = found (map f vs)

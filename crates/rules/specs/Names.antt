@@ -1,43 +1,37 @@
 -- The names of a node and what they are bound to. "Every name is read restricted to m."
-use Rattle.std.specs.Prelude.{List, [], ◌∷◌, get_or, set, replicate}
+use Rattle.std.specs.Prelude.{List, [], ◌∷◌, Option, Some, None, option_map, get_or, set, replicate}
 use Rattle.limits.specs.Limits.{max_names}
 use Rattle.limits.specs.declared.Name.{Name}
 use Rattle.parties.specs.declared.sets.PartySet.{PartySet}
 use Rattle.values.specs.Values.{restrict}
 use Rattle.values.specs.declared.value.Value.{Value}
 use Rattle.values.specs.declared.value.Value.TheVariants.{Nothing}
-use Rattle.cells.specs.declared.Bound.{Bound}
-use Rattle.cells.specs.declared.Bound.TheVariants.{Unbound, To}
 use Rattle.nodes.specs.declared.Node.{Node}
 use Rattle.nodes.specs.declared.Node.TheVariants.{VAR, INT, OP, MUX, READ, WRITE, EMBED, SHARE, REVEAL, LET, CASE, PAR, CALL}
 
--- what the sixteen names are bound to, name 0 first
+-- what the sixteen names are bound to, name 0 first; None is unbound
 abbrev pub Names : Type 0
-Names = List Bound
+Names = List (Option Value)
 
 unfoldable pub none_bound : Names
-none_bound = replicate max_names Unbound
+none_bound = replicate max_names None
 
 unfoldable pub bind : Name → Value → Names → Names
-bind x v b = set b x.index (To v)
+bind x v b = set b x.index (Some v)
 
 -- the value of a name in the mode m. Unbound and nothing are different things.
-abbrev pub restricted : PartySet → Bound → Bound
-restricted m Unbound = Unbound
-restricted m (To v) = To (restrict m v)
-
-unfoldable pub look : PartySet → Names → Name → Bound
-look m b x = restricted m (get_or b x.index Unbound)
+unfoldable pub look : PartySet → Names → Name → Option Value
+look m b x = option_map (restrict m) (get_or b x.index None)
 
 -- all names of a node at once: their values, or the first that is unbound
 pub data Looked : Type 0 where
   found : List Value → Looked
   unbound : Name → Looked
 
-abbrev pub before : Name → Bound → Looked → Looked
-before x Unbound r = unbound x
-before x (To v) (found vs) = found (v ∷ vs)
-before x (To v) (unbound y) = unbound y
+abbrev pub before : Name → Option Value → Looked → Looked
+before x None r = unbound x
+before x (Some v) (found vs) = found (v ∷ vs)
+before x (Some v) (unbound y) = unbound y
 
 unfoldable pub look_all : PartySet → Names → List Name → Looked
 look_all m b [] = found []
