@@ -1,4 +1,5 @@
 -- Levels and frames: each goes by its own bytes alone, and where all are zero no name is bound. Assumes nothing.
+use Rattle.std.specs.Prelude.{None}
 use mathlib.Core.Path.{◌≡◌, refl, ap, ap₂, ◌∙◌}
 use mathlib.Core.List.{List, [], ◌∷◌}
 use Prim.Native.Nat.{ℕ, zero, suc, ◌+◌, ◌-◌, ◌*◌, ◌≤◌, ◌<◌}
@@ -11,7 +12,6 @@ use Rattle.words.proofs.WordLaws.{number_same}
 use Rattle.limits.specs.Limits.{max_names}
 use Rattle.parties.specs.declared.sets.PartySet.{PartySet}
 use Rattle.cells.specs.Cells.{width, cell_at}
-use Rattle.cells.specs.declared.Bound.TheVariants.{Unbound}
 use Rattle.rules.specs.Names.{none_bound}
 use Rattle.rules.specs.Moves.{Frame}
 use Rattle.area.specs.Levels.{table_size, level_at, names_at, frame_at, frames_of, control_of}
@@ -26,7 +26,7 @@ SameLevels xs ys end = (i : ℕ) → table_size ≤ i → i < end → get_or xs 
 pub names_length : (w : List ℕ) (d : ℕ) → length (names_at w d) ≡ max_names
 names_length w d = cells_length max_names w (level_at d)
 
-pub names_get : (w : List ℕ) (d x : ℕ) → x < max_names → get_or (names_at w d) x Unbound ≡ cell_at w (level_at d + x * width)
+pub names_get : (w : List ℕ) (d x : ℕ) → x < max_names → get_or (names_at w d) x None ≡ cell_at w (level_at d + x * width)
 names_get w d x h = cells_get max_names x w (level_at d) h
 
 pub names_same : (d : ℕ) (xs ys : List ℕ) → SameLevels xs ys (level_at (suc d)) → names_at xs d ≡ names_at ys d

@@ -1,4 +1,5 @@
 -- The moves in the levels of an area: a name is bound, a value handed back, a frame put down, a body called. Assumes nothing.
+use Rattle.std.specs.Prelude.{Some}
 use mathlib.Core.Path.{◌≡◌, refl, sym, ap, ◌∙◌}
 use mathlib.Core.List.{List, [], ◌∷◌, ◌++◌, append_assoc}
 use Prim.Native.Nat.{ℕ, suc, ◌+◌, ◌-◌, ◌*◌, ◌^◌, ◌≤◌, ◌<◌}
@@ -21,7 +22,6 @@ use Rattle.limits.specs.declared.Name.{Name}
 use Rattle.parties.specs.declared.sets.PartySet.{PartySet}
 use Rattle.cells.specs.Cells.{width, cell_bytes, Ranged}
 use Rattle.values.specs.declared.value.Value.{Value}
-use Rattle.cells.specs.declared.Bound.TheVariants.{To}
 use Rattle.area.specs.Rows.{row_size}
 use Rattle.rules.specs.Moves.{on, hand_back, move}
 use Rattle.rules.specs.Names.{bind, none_bound}
@@ -44,19 +44,19 @@ module _ (x : Name) (v : Value) (d : ℕ) (w : List ℕ) where
   unfolding bind
   bound_not h =
       let l : length (names_at w d) ≤ x.index = rw (names_length w d) h in
-      record { names = sym (set_out (names_at w d) x.index (To v) l); frames = refl; table = refl }
+      record { names = sym (set_out (names_at w d) x.index (Some v) l); frames = refl; table = refl }
 
-  pub bound : (at : ℕ) (w' : List ℕ) → d ≤ max_frames → row_size ≤ length w → x.index < max_names → Ranged (To v) → at ≡ level_at d
-      → w' ≡ sets w (at + x.index * width) (cell_bytes (To v)) → Binds x v d w w'
+  pub bound : (at : ℕ) (w' : List ℕ) → d ≤ max_frames → row_size ≤ length w → x.index < max_names → Ranged (Some v) → at ≡ level_at d
+      → w' ≡ sets w (at + x.index * width) (cell_bytes (Some v)) → Binds x v d w w'
   unfolding bind
   bound at w' few room h r place e =
-      let f : w' ≡ sets w (level_at d + x.index * width) (cell_bytes (To v)) = rw place at e in
+      let f : w' ≡ sets w (level_at d + x.index * width) (cell_bytes (Some v)) = rw place at e in
       rw f
       record {
-        names = cells_set max_names x.index w (level_at d) (To v) h r (omega arith);
-        frames = frames_same d (sets w (level_at d + x.index * width) (cell_bytes (To v))) w
-            (λ i j k. sets_before (cell_bytes (To v)) w (level_at d + x.index * width) i (omega arith));
-        table = table_sets (cell_bytes (To v)) w (level_at d + x.index * width) (omega arith);
+        names = cells_set max_names x.index w (level_at d) (Some v) h r (omega arith);
+        frames = frames_same d (sets w (level_at d + x.index * width) (cell_bytes (Some v))) w
+            (λ i j k. sets_before (cell_bytes (Some v)) w (level_at d + x.index * width) i (omega arith));
+        table = table_sets (cell_bytes (Some v)) w (level_at d + x.index * width) (omega arith);
       }
 
 -- ---- a value is handed back

@@ -7,7 +7,6 @@ ghost use Rattle.area.specs.Levels.{level_at, frames_of, control_of, Goes};
 ghost use Rattle.area.specs.Binding.{Binds};
 
 use crate::stand::{Next, Stand};
-use cells::Bound;
 use limits::{Depth, MadeDepth, Name};
 use rules::effects::Move;
 use values::value::Value;
@@ -44,8 +43,7 @@ fn bind(x: Name, v: Value, d: Depth, w: &mut [u8])
         return;
     }
     let at = level_at(d);
-    let b = Bound::To(v);
-    b.store(w, at + x.index as usize * Bound::WIDTH);
+    cells::store(Some(v), w, at + x.index as usize * cells::WIDTH);
 }
 
 // A value is handed back: the top frame is removed, its mode and bindings return with its name bound to v, and its body is next.
