@@ -1,4 +1,5 @@
 -- A joint node asks for what its rule asks for, by what its one name is bound to; and the rule of no other node asks for a meeting. Assumes nothing.
+use Rattle.std.specs.Prelude.{Ok, Err}
 use mathlib.Core.Path.{◌≡◌, refl, sym}
 use mathlib.Core.List.{List, [], ◌∷◌}
 use Prim.Native.Nat.{ℕ}
@@ -18,18 +19,18 @@ use Rattle.rules.specs.declared.bindings.Binding.{Binding}
 use Rattle.rules.specs.declared.effects.View.{View}
 use Rattle.rules.specs.declared.effects.Effect.TheVariants.{Refuse}
 use Rattle.lookup.specs.Lookup.{sought_of, joint_rule, Unmet}
-use Rattle.lookup.specs.declared.Sought.TheVariants.{Found, Unbound}
+use Rattle.lookup.specs.declared.Unbound.{Unbound}
 use Rattle.lookup.proofs.LookupLaws.{found_is, missing_is}
 
 -- ---- a node that reads one name, by what it is bound to
 module _ (view : View) (e : Node) (m : PartySet) (b : Names) (x : Name) (reads : names_of e ≡ x ∷ []) where
-  pub one_bound : (v : Binding) → Found v ≡ sought_of x (look m b x) → judge view e m (v.value ∷ []) ≡ rule view e m b
+  pub one_bound : (v : Binding) → Ok v ≡ sought_of x (look m b x) → judge view e m (v.value ∷ []) ≡ rule view e m b
   unfolding rule look_all
   one_bound v h = rw (reads, found_is x (look m b x) v (sym h))
 
-  pub one_unbound : (y : Name) → Unbound y ≡ sought_of x (look m b x) → Refuse name_unbound ≡ rule view e m b
+  pub one_unbound : (y : Unbound) → Err y ≡ sought_of x (look m b x) → Refuse name_unbound ≡ rule view e m b
   unfolding rule look_all
-  one_unbound y h = rw (reads, missing_is x (look m b x) y (sym h))
+  one_unbound y h = rw (reads, (missing_is x (look m b x) y (sym h)).0)
 
 -- ---- which nodes are joint
 pub joint_rule_lem : (view : View) (n : Node) (m : PartySet) (b : Names) → IsJoint (joint_node n) → joint_rule view (joint_node n) m b ≡ rule view n m b

@@ -1,29 +1,26 @@
 -- What a lookup finds, in the rules' terms.
-use Rattle.std.specs.Prelude.{List, [], ◌∷◌, take}
+use Rattle.std.specs.Prelude.{List, [], ◌∷◌, Option, Some, None, Result, Ok, Err, take}
 use Rattle.limits.specs.declared.Name.{Name}
 use Rattle.parties.specs.declared.sets.PartySet.{PartySet}
 use Rattle.values.specs.declared.value.Value.{Value}
-use Rattle.cells.specs.declared.Bound.{Bound}
-use Rattle.cells.specs.declared.Bound.TheVariants.{Unbound, To}
 use Rattle.nodes.specs.declared.Node.TheVariants.{SHARE, REVEAL}
 use Rattle.nodes.specs.declared.JointNode.{JointNode}
 use Rattle.nodes.specs.declared.JointNode.TheVariants.{SHARE as SHARE', REVEAL as REVEAL', Neither}
 use Rattle.rules.specs.Names.{Names, Looked, found, unbound, first, second, third}
 use Rattle.rules.specs.Rules.{rule}
+use Rattle.rules.specs.declared.bindings.Binding.{Binding}
+use Rattle.rules.specs.declared.bindings.Bindings.{Bindings}
 use Rattle.rules.specs.declared.effects.View.{View}
 use Rattle.rules.specs.declared.effects.Effect.{Effect}
 use Rattle.rules.specs.declared.effects.Effect.TheVariants.{Refuse, Goes, Reads, Writes, Meets}
 use Rattle.local_rules.specs.Handed.{values_of}
-use Rattle.lookup.specs.declared.Sought.{Sought}
-use Rattle.lookup.specs.declared.Sought.TheVariants as Sought'
+use Rattle.lookup.specs.declared.Unbound.{Unbound}
 use Rattle.lookup.specs.declared.Reading.{Reading}
-use Rattle.lookup.specs.declared.Handed.{Handed}
-use Rattle.lookup.specs.declared.Handed.TheVariants as Handed'
 
 -- one name
-abbrev pub sought_of : Name → Bound → Sought
-sought_of x Unbound = Sought'.Unbound x
-sought_of x (To v) = Sought'.Found (record { name = x; value = v })
+abbrev pub sought_of : Name → Option Value → Result Binding Unbound
+sought_of x None = Err (record { name = x })
+sought_of x (Some v) = Ok (record { name = x; value = v })
 
 -- the names of a reading
 abbrev pub listed : Reading → List Name
@@ -38,9 +35,9 @@ padded (found vs) = found (three vs)
 padded (unbound x) = unbound x
 
 -- what the code's answer says
-abbrev pub told : Handed → Looked
-told (Handed'.All b) = found (values_of b)
-told (Handed'.Unbound x) = unbound x
+abbrev pub told : Result Bindings Unbound → Looked
+told (Ok b) = found (values_of b)
+told (Err u) = unbound u.name
 
 -- what the rule of a joint node asks for; of another nobody asks it here
 abbrev pub joint_rule : View → JointNode → PartySet → Names → Effect

@@ -10,7 +10,6 @@ ghost use Rattle.area.specs.Levels.{names_at};
 ghost use Rattle.lookup.specs.Lookup.{sought_of, listed, padded, told, joint_rule};
 
 use area::stand::Stand;
-use cells::Bound;
 use limits::{Depth, Name};
 use nodes::{JointNode, Node};
 use parties::sets::PartySet;
@@ -18,31 +17,29 @@ use rules::bindings::{Binding, Bindings};
 use rules::effects::{Effect, View};
 use values::value::Value;
 
-// What is found of a name.
+// A name that is unbound.
 #[derive(Clone, Copy)]
-pub enum Sought {
-    Found(Binding),
-    Unbound(Name),
+pub struct Unbound {
+    pub name: Name,
 }
 
 // The binding of a name in the level that has so many frames below it, restricted to m.
-pub fn seek(w: &[u8], depth: Depth, m: PartySet, x: Name) -> Sought
+pub fn seek(w: &[u8], depth: Depth, m: PartySet, x: Name) -> Result<Binding, Unbound>
     requires { (depth.frames ≤ max_frames) × (row_size ≤ length w.now) }
     ensures { result ≡ sought_of x (look m (names_at w.now depth.frames) x) }
 {
-    if x.index < Name::MAX {
-        let level = area::levels::level_at(depth);
-        let bound = Bound::load(w, level + (x.index as usize) * Bound::WIDTH);
-        match bound {
-            Bound::Unbound => Sought::Unbound(x),
-            Bound::To(v) => Sought::Found(Binding {
-                name: x,
-                value: v.restrict(m),
-            }),
-        }
-    } else {
-        Sought::Unbound(x)
+    let unbound = Unbound { name: x };
+    if x.index >= Name::MAX {
+        return Err(unbound);
     }
+    let level = area::levels::level_at(depth);
+    let Some(v) = cells::load(w, level + x.index as usize * cells::WIDTH) else {
+        return Err(unbound);
+    };
+    Ok(Binding {
+        name: x,
+        value: v.restrict(m),
+    })
 }
 
 // The names that a node reads, in the order written: the first so many of three.
@@ -82,51 +79,37 @@ pub fn names_read(node: Node) -> Reading
 }
 
 // The bindings of a node, or the first of its names that is unbound.
-#[derive(Clone, Copy)]
-pub enum Handed {
-    All(Bindings),
-    Unbound(Name),
-}
-
-fn look_all(names: Reading, depth: Depth, m: PartySet, w: &[u8]) -> Handed
+#[tactic(auto, using(crate::proofs::LookupLaws::looked_none, crate::proofs::LookupLaws::first_unbound, crate::proofs::LookupLaws::looked_one, crate::proofs::LookupLaws::second_unbound, crate::proofs::LookupLaws::looked_two, crate::proofs::LookupLaws::third_unbound))]
+fn look_all(names: Reading, depth: Depth, m: PartySet, w: &[u8]) -> Result<Bindings, Unbound>
     requires { (depth.frames ≤ max_frames) × (row_size ≤ length w.now) }
     ensures { told result ≡ padded (look_all m (names_at w.now depth.frames) (listed names)) }
 {
     let many = names.many;
-    let first = names.x;
-    let second = names.y;
-    let third = names.z;
     let blank = Binding {
         name: Name { index: 0 },
         value: Value::Nothing,
     };
     if many == 0 {
-        return Handed::All(Bindings {
+        return Ok(Bindings {
             x: blank,
             y: blank,
             z: blank,
         });
     }
-    let Sought::Found(x) = seek(w, depth, m, first) else {
-        return Handed::Unbound(first);
-    };
+    let x = seek(w, depth, m, names.x)?;
     if many == 1 {
-        return Handed::All(Bindings {
+        return Ok(Bindings {
             x,
             y: blank,
             z: blank,
         });
     }
-    let Sought::Found(y) = seek(w, depth, m, second) else {
-        return Handed::Unbound(second);
-    };
+    let y = seek(w, depth, m, names.y)?;
     if many == 2 {
-        return Handed::All(Bindings { x, y, z: blank });
+        return Ok(Bindings { x, y, z: blank });
     }
-    let Sought::Found(z) = seek(w, depth, m, third) else {
-        return Handed::Unbound(third);
-    };
-    Handed::All(Bindings { x, y, z })
+    let z = seek(w, depth, m, names.z)?;
+    Ok(Bindings { x, y, z })
 }
 
 // What the node at which control stands asks for.
@@ -136,7 +119,7 @@ pub fn effect(view: View, node: Node, t: Stand, w: &[u8]) -> Effect
 {
     let m = t.mode;
     let depth = t.depth;
-    let Handed::All(b) = look_all(names_read(node), depth, m, w) else {
+    let Ok(b) = look_all(names_read(node), depth, m, w) else {
         return Effect::Refuse(refusals::NAME_UNBOUND);
     };
     judge::judged::judge(view, node, m, b)
@@ -151,14 +134,14 @@ pub fn joint_effect(view: View, node: JointNode, t: Stand, w: &[u8]) -> Effect
     let depth = t.depth;
     match node {
         JointNode::SHARE(a, q, x) => {
-            let Sought::Found(b) = seek(w, depth, m, x) else {
+            let Ok(b) = seek(w, depth, m, x) else {
                 return Effect::Refuse(refusals::NAME_UNBOUND);
             };
             let v = b.value;
             party_rules::share(view, m, a, q, v)
         }
         JointNode::REVEAL(q, x) => {
-            let Sought::Found(b) = seek(w, depth, m, x) else {
+            let Ok(b) = seek(w, depth, m, x) else {
                 return Effect::Refuse(refusals::NAME_UNBOUND);
             };
             let v = b.value;
