@@ -1,4 +1,5 @@
 -- The answers of a step that needs only the area, and of a run of moves. Assumes nothing.
+use Rattle.std.specs.Prelude.{Ok}
 use mathlib.Core.Path.{◌≡◌, refl, sym, ◌∙◌, subst}
 use mathlib.Core.List.{List, [], ◌∷◌}
 use Prim.Native.Nat.{ℕ, zero, suc, ◌+◌, ◌≤◌}
@@ -32,7 +33,6 @@ use Rattle.area.specs.declared.stand.Next.{Next}
 use Rattle.area.specs.declared.stand.Next.TheVariants as Next'
 use Rattle.table.specs.Table.{node_by}
 use Rattle.lookup.specs.Lookup.{sought_of, joint_rule, Unmet}
-use Rattle.lookup.specs.declared.Sought.TheVariants as Sought'
 use Rattle.lookup.proofs.LookupLaws.{found_is}
 use Rattle.lookup.proofs.JointLaws.{unmet}
 use Rattle.advance.specs.Advances.{rule_of, Asked, Answers, Hastens, Advances, Moves}
@@ -109,7 +109,7 @@ module _ (view : View) (m : PartySet) (b : Names) where
   unfolding rule look_all names_of judge
   rule_let x e1 e2 = refl
 
-  pub rule_call : (f : ℕ) (x : Name) (y : Binding) → Sought'.Found y ≡ sought_of x (look m b x) → Effect'.Goes (Call f y.value) ≡ rule view (CALL f x) m b
+  pub rule_call : (f : ℕ) (x : Name) (y : Binding) → Ok y ≡ sought_of x (look m b x) → Effect'.Goes (Call f y.value) ≡ rule view (CALL f x) m b
   unfolding rule look_all names_of judge
   rule_call f x y h = rw (found_is x (look m b x) y (sym h))
 

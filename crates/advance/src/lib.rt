@@ -13,7 +13,6 @@ ghost use Rattle.advance.specs.Advances.{Answers, Advances, Hastens};
 
 use area::stand::{Next, Stand};
 use limits::Name;
-use lookup::Sought;
 use nodes::Node;
 use rules::effects::{Effect, View};
 
@@ -53,7 +52,7 @@ fn call(f: u16, x: Name, t: Stand, w: &mut [u8]) -> Haste
 {
     let m = t.mode;
     let depth = t.depth;
-    let Sought::Found(b) = lookup::seek(w, depth, m, x) else {
+    let Ok(b) = lookup::seek(w, depth, m, x) else {
         return Haste::None;
     };
     let v = b.value;

@@ -1,5 +1,6 @@
 -- SHARE and REVEAL at one site, where the single run takes them: each member brings the secret if it is one of its holders,
 -- and some member of the mode is one. Assumes nothing.
+use Rattle.std.specs.Prelude.{Option, Some, None, option_map}
 use Prim.Native.Nat.{ℕ}
 use mathlib.Core.Path.{◌≡◌, refl, sym, ap, ap₂, ◌∙◌, subst}
 use mathlib.Core.Bool.{Bool, true, false, cond, false≢true}
@@ -17,12 +18,10 @@ use Rattle.parties.specs.declared.sets.PartySet.{PartySet}
 use Rattle.values.specs.Values.{place, moved, restrict, slice}
 use Rattle.values.specs.declared.value.Value.{Value}
 use Rattle.values.specs.declared.value.Value.TheVariants.{Nothing, Clear, Share}
-use Rattle.cells.specs.declared.Bound.{Bound}
-use Rattle.cells.specs.declared.Bound.TheVariants.{Unbound, To}
 use Rattle.nodes.specs.declared.Node.{Node}
 use Rattle.nodes.specs.declared.Node.TheVariants.{VAR, INT, OP, MUX, READ, WRITE, EMBED, SHARE, REVEAL, LET, CASE, PAR, CALL}
 use Rattle.refusals.specs.Numbers.{wrong_value, wrong_mode}
-use Rattle.rules.specs.Names.{Names, restricted, look, Looked, found, unbound, before, look_all, names_of, first}
+use Rattle.rules.specs.Names.{Names, look, Looked, found, unbound, before, look_all, names_of, first}
 use Rattle.rules.specs.Rules.{unless, giver_shares, other_shares, at_share, holder_opens, at_reveal, judge, with_values, rule}
 use Rattle.rules.specs.Joint.{site}
 use Rattle.rules.specs.declared.effects.View.TheVariants.{Whole}
@@ -189,11 +188,11 @@ restrict_full m v = go (is_empty (meet (place v) m)) refl
 
 looked_full : (m : PartySet) (b : Names) (x : Name) → FullLooked (look_all m b (x ∷ []))
 unfolding look_all look
-looked_full m b x = go (get_or b x.index Unbound)
+looked_full m b x = go (get_or b x.index None)
   where
-    go : (u : Bound) → FullLooked (before x (restricted m u) (found []))
-    go Unbound = tt
-    go (To v) = restrict_full m v
+    go : (u : Option Value) → FullLooked (before x (option_map (restrict m) u) (found []))
+    go None = tt
+    go (Some v) = restrict_full m v
 
 in_left : (a q m : PartySet) (Q : ℕ) → join a q ≡ m → member Q a ≡ true → member Q m ≡ true
 in_left a q m Q e h = ap (member Q) (sym e) ∙ member_join Q a q ∙ rw h

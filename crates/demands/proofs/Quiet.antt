@@ -1,4 +1,5 @@
 -- A party outside of the mode sees nothing of a step: nothing of what it hands back is at that party. Assumes nothing.
+use Rattle.std.specs.Prelude.{Option, Some, None, option_map}
 use Prim.Native.Nat.{ℕ, zero, suc}
 use mathlib.Core.Path.{◌≡◌, refl, sym, ap, ◌∙◌, subst}
 use mathlib.Core.Bool.{Bool, true, false, ◌&&◌, ◌||◌, false≢true}
@@ -10,15 +11,13 @@ use Rattle.parties.specs.Sets.{member, meet, join, only, make_up}
 use Rattle.parties.specs.SetLaws.{member_meet, member_join, same_set_lem}
 use Rattle.limits.specs.declared.Name.{Name}
 use Rattle.parties.specs.declared.sets.PartySet.{PartySet}
-use Rattle.values.specs.Values.{place, slice, had_by}
+use Rattle.values.specs.Values.{place, restrict, slice, had_by}
 use Rattle.values.specs.declared.value.Value.{Value}
 use Rattle.values.specs.declared.value.Value.TheVariants.{Nothing, Clear, Share}
-use Rattle.cells.specs.declared.Bound.{Bound}
-use Rattle.cells.specs.declared.Bound.TheVariants.{Unbound, To}
 use Rattle.nodes.specs.Nodes.{operation_of}
 use Rattle.nodes.specs.declared.Node.{Node}
 use Rattle.nodes.specs.declared.Node.TheVariants.{VAR, INT, OP, MUX, READ, WRITE, EMBED, SHARE, REVEAL, LET, CASE, PAR, CALL}
-use Rattle.rules.specs.Names.{Names, restricted, look, Looked, found, unbound, before, look_all, names_of}
+use Rattle.rules.specs.Names.{Names, look, Looked, found, unbound, before, look_all, names_of}
 use Rattle.rules.specs.Rules.{mux, rule}
 use Rattle.rules.specs.RuleLaws.{OfKind, rule_holds}
 use Rattle.rules.specs.Books.{handed}
@@ -51,9 +50,9 @@ abbrev QuietLooked : ℕ → Looked → Type 0
 QuietLooked P (found vs) = QuietValues P vs
 QuietLooked P (unbound x) = Unit {0}
 
-abbrev QuietBound : ℕ → Bound → Type 0
-QuietBound P Unbound = Unit {0}
-QuietBound P (To v) = slice P v ≡ Nothing
+abbrev QuietBound : ℕ → Option Value → Type 0
+QuietBound P None = Unit {0}
+QuietBound P (Some v) = slice P v ≡ Nothing
 
 module _ (P : ℕ) (m : PartySet) (outside : member P m ≡ false) where
   out_meet : (l : PartySet) → member P (meet l m) ≡ false
@@ -65,11 +64,11 @@ module _ (P : ℕ) (m : PartySet) (outside : member P m ≡ false) where
 
   look_out : (b : Names) (x : Name) → QuietBound P (look m b x)
   unfolding look
-  look_out b x = go (get_or b x.index Unbound)
+  look_out b x = go (get_or b x.index None)
     where
-      go : (u : Bound) → QuietBound P (restricted m u)
-      go Unbound = tt
-      go (To v) = slice_restricted P m v ∙ rw (out_meet (place v))
+      go : (u : Option Value) → QuietBound P (option_map (restrict m) u)
+      go None = tt
+      go (Some v) = slice_restricted P m v ∙ rw (out_meet (place v))
 
   look_all_out : (b : Names) (xs : List Name) → QuietLooked P (look_all m b xs)
   unfolding look_all
@@ -80,10 +79,10 @@ module _ (P : ℕ) (m : PartySet) (outside : member P m ≡ false) where
       more v vs h g zero = h
       more v vs h g (suc k) = g k
 
-      go : (u : Bound) (r : Looked) → QuietBound P u → QuietLooked P r → QuietLooked P (before x u r)
-      go Unbound r h g = tt
-      go (To v) (found vs) h g = more v vs h g
-      go (To v) (unbound y) h g = tt
+      go : (u : Option Value) (r : Looked) → QuietBound P u → QuietLooked P r → QuietLooked P (before x u r)
+      go None r h g = tt
+      go (Some v) (found vs) h g = more v vs h g
+      go (Some v) (unbound y) h g = tt
 
   pub clear_quiet : (i : ℤ) → slice P (Clear i m) ≡ Nothing
   unfolding slice place

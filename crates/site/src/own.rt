@@ -10,7 +10,6 @@ ghost use Rattle.site.specs.Own.{Weighs, Owns, meeting_of, Invites};
 
 use area::stand::Stand;
 use limits::Party;
-use lookup::Sought;
 use nodes::JointNode;
 use rules::effects::{Effect, Meeting, Offer, View};
 
@@ -75,14 +74,14 @@ fn meeting(p: Party, node: JointNode, t: Stand, area: &[u8]) -> Invitation
     let depth = t.depth;
     match node {
         JointNode::SHARE(a, q, x) => {
-            let Sought::Found(b) = lookup::seek(area, depth, m, x) else {
+            let Ok(b) = lookup::seek(area, depth, m, x) else {
                 return Invitation::Not;
             };
             let v = b.value;
             meeting_of(party_rules::share(View::Site(p), m, a, q, v))
         }
         JointNode::REVEAL(q, x) => {
-            let Sought::Found(b) = lookup::seek(area, depth, m, x) else {
+            let Ok(b) = lookup::seek(area, depth, m, x) else {
                 return Invitation::Not;
             };
             let v = b.value;

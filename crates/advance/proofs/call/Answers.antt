@@ -11,4 +11,4 @@ returns-in_default c = (refl, refl)
 
 pub returns : goal.returns
 returns c = let a = c.args in
-    λ view. answers_moves view _ a.t a.w.now _ _ _ (rule_call view a.t.mode (names_at a.w.now a.t.depth.frames) a.f a.x _ (sym c.in-Found.is ∙ c.seek.ensures)) c.call.ensures
+    λ view. answers_moves view _ a.t a.w.now _ _ _ (rule_call view a.t.mode (names_at a.w.now a.t.depth.frames) a.f a.x _ (sym c.in-Ok.is ∙ c.seek.ensures)) c.call.ensures

@@ -18,12 +18,12 @@ unfolding names_of
 returns-in_default-seek c = let a = c.args in
     rw c.in-REVEAL.is (ap meeting_of (one_unbound (Site a.p) _ a.t.mode (names_at a.area.now a.t.depth.frames) _ refl _ (sym c.in_default-seek.is ∙ c.seek-in-REVEAL.ensures)))
 
-pub returns-in-Found : goal.returns-in-Found
+pub returns-in-Ok : goal.returns-in-Ok
 unfolding names_of judge
-returns-in-Found c = let a = c.args in
-    rw c.in-SHARE.is (c.meeting_of.ensures ∙ ap meeting_of (c.share.ensures ∙ one_bound (Site a.p) _ a.t.mode (names_at a.area.now a.t.depth.frames) _ refl _ (sym c.in-Found.is ∙ c.seek.ensures)))
+returns-in-Ok c = let a = c.args in
+    rw c.in-SHARE.is (c.meeting_of.ensures ∙ ap meeting_of (c.share.ensures ∙ one_bound (Site a.p) _ a.t.mode (names_at a.area.now a.t.depth.frames) _ refl _ (sym c.in-Ok.is ∙ c.seek.ensures)))
 
-pub returns-in-Found-seek : goal.returns-in-Found-seek
+pub returns-in-Ok-seek : goal.returns-in-Ok-seek
 unfolding names_of judge
-returns-in-Found-seek c = let a = c.args in
-    rw c.in-REVEAL.is (c.meeting_of-in-REVEAL.ensures ∙ ap meeting_of (c.reveal.ensures ∙ one_bound (Site a.p) _ a.t.mode (names_at a.area.now a.t.depth.frames) _ refl _ (sym c.in-Found-seek.is ∙ c.seek-in-REVEAL.ensures)))
+returns-in-Ok-seek c = let a = c.args in
+    rw c.in-REVEAL.is (c.meeting_of-in-REVEAL.ensures ∙ ap meeting_of (c.reveal.ensures ∙ one_bound (Site a.p) _ a.t.mode (names_at a.area.now a.t.depth.frames) _ refl _ (sym c.in-Ok-seek.is ∙ c.seek-in-REVEAL.ensures)))
