@@ -16,7 +16,7 @@ use Rattle.program.specs.Answer.{CheckAnswer, accepted, refused, answer_of, chec
 use Rattle.program.specs.Records.{reach_of, found_at, parties_in, scanned, AllGood}
 use Rattle.nodes.specs.declared.Node.{Node}
 use Rattle.nodes.specs.declared.Node.TheVariants.{VAR, INT, OP, MUX, READ, WRITE, EMBED, SHARE, REVEAL, LET, CASE, PAR, CALL}
-use Rattle.program.specs.declared.check.Found.TheVariants as Found'
+use Rattle.std.proofs.Common.{Some, None}
 use Rattle.program.specs.ScanLaws.{placed, from, scan_end}
 use Rattle.program.proofs.ScanSteps.{scan_bad, scan_good}
 
@@ -160,11 +160,11 @@ going_start p n = record { seen = []; left = refl; count = refl; covers = λ k h
 
 module _ (p : List ℕ) (n own at reach : ℕ) (g : Going p n own at reach) where
   module _ (h : at < length p) where
-    pub going_bad : found_at p n own at ≡ Found'.Bad → verdict n (length p) (scanned p n) ≡ Checked.bad at
+    pub going_bad : found_at p n own at ≡ None → verdict n (length p) (scanned p n) ≡ Checked.bad at
     unfolding verdict
     going_bad e = rw (g.left, scan_bad p n own at h e, prepended_bad g.seen at)
 
-    pub going_on : (next r : ℕ) → found_at p n own at ≡ Found'.Good next r → Going p n (own + 1) next (max reach r)
+    pub going_on : (next r : ℕ) → found_at p n own at ≡ Some (record { next = next; reach = r }) → Going p n (own + 1) next (max reach r)
     unfolding bad_call
     going_on next r e =
         let s = scan_good p n own at h next r e in

@@ -6,7 +6,6 @@ ghost use Rattle.program.specs.Records.{reach_of, found_at, parties_in, AllGood,
 ghost use Rattle.program.specs.Answer.{told, check_answer};
 
 use crate::fields::fields_fit;
-use crate::kinds::Body;
 use limits::Party;
 use nodes::{Node, byte, half};
 
@@ -18,11 +17,12 @@ pub enum Verdict {
     Bad(usize),
 }
 
+// What is found of a good record.
 #[derive(Clone, Copy)]
-enum Found {
-    // where the next record starts, and the record's reach
-    Good(usize, usize),
-    Bad,
+struct Found {
+    // where the next record starts
+    next: usize,
+    reach: usize,
 }
 
 // n, of a good first record; else 0.
@@ -52,25 +52,23 @@ fn reach_at(program: &[u8], at: usize) -> usize
 
 // The record at `at`, where the next node is numbered `own`.
 #[tactic(auto, using(crate::proofs::RecordLaws::found_full))]
-fn record_at(program: &[u8], n: u8, own: usize, at: usize) -> Found
+fn record_at(program: &[u8], n: u8, own: usize, at: usize) -> Option<Found>
     requires { (n ≤ max_parties) × (at < 65535) × (at < length program.now) }
     ensures { result ≡ found_at program.now n own at }
 {
     if Node::MAX <= own {
-        return Found::Bad;
+        return None;
     }
-    let Body::Node(length, rule) = crate::kinds::body_of(byte(program, at)) else {
-        return Found::Bad;
-    };
+    let (length, rule) = crate::kinds::body_of(byte(program, at))?;
     if program.len() - at - 1 < length {
-        return Found::Bad;
+        return None;
     }
     let next = at + 1 + length;
     let reach = reach_at(program, at);
     if fields_fit(rule, program, at + 1, n, own) {
-        return Found::Good(next, reach);
+        return Some(Found { next, reach });
     }
-    Found::Bad
+    None
 }
 
 fn greater(a: usize, b: usize) -> usize
@@ -87,7 +85,7 @@ fn lost_call(program: &[u8], n: u8, nodes: usize) -> usize
     let mut at = 2;
     let mut own = 0;
     while at < program.len() {
-        let Found::Good(next, reach) = record_at(program, n, own, at) else {
+        let Some(Found { next, reach }) = record_at(program, n, own, at) else {
             return at;
         };
         if nodes < reach {
@@ -110,12 +108,12 @@ pub fn check(program: &[u8]) -> Verdict
     let mut own = 0;
     let mut reach = 0;
     while at < program.len() {
-        let Found::Good(next, r) = record_at(program, n, own, at) else {
+        let Some(found) = record_at(program, n, own, at) else {
             return Verdict::Bad(at);
         };
-        at = next;
+        at = found.next;
         own += 1;
-        reach = greater(reach, r);
+        reach = greater(reach, found.reach);
     }
     if own == 0 {
         return Verdict::Bad(program.len());

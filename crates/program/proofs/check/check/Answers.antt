@@ -21,10 +21,10 @@ pub overflow_add-own : goal.overflow_add-own
 overflow_add-own c = omega (arith, c.loop-at.invariant.few)
 
 pub loop-at-smaller : goal.loop-at-smaller
-loop-at-smaller c = let s = scan_good c.args.program.now _ _ _ c.loop-at-test.true _ _ (sym c.record_at.ensures ∙ c.in-Good.is) in omega (arith, s.onward, s.inside)
+loop-at-smaller c = let s = scan_good c.args.program.now _ _ _ c.loop-at-test.true _ _ (sym c.record_at.ensures ∙ c.in-Some.is) in omega (arith, s.onward, s.inside)
 
 pub loop-at-preserved : goal.loop-at-preserved
-loop-at-preserved c = rw c.greater-reach.ensures (going_on c.args.program.now _ _ _ _ c.loop-at.invariant c.loop-at-test.true _ _ (sym c.record_at.ensures ∙ c.in-Good.is))
+loop-at-preserved c = rw c.greater-reach.ensures (going_on c.args.program.now _ _ _ _ c.loop-at.invariant c.loop-at-test.true _ _ (sym c.record_at.ensures ∙ c.in-Some.is))
 
 pub returns-then-own-eq0 : goal.returns-then-own-eq0
 returns-then-own-eq0 c = let p = c.args.program.now in answer_bad p _ c.parties_of-n.ensures c.if-n-eq0.false _ (going_none p _ _ _ _ c.loop-at.invariant c.loop-at-test.false c.if-own-eq0.true)
