@@ -106,18 +106,18 @@ reach_other p at {k} e d =
 -- ---- the first record
 
 module _ (p : List ℕ) where
-  pub no_parties : {k : ℕ} → k ≡ get_or p 0 0 → (k ≡ 0 → ⊥) → 0 ≡ parties_in p
+  pub no_parties : {k : ℕ} → k ≡ get_or p 0 0 → (k ≡ 0 → ⊥) → None ≡ parties_in p
   unfolding parties_in
   no_parties {k} e d = rw (← e, ne_eqb k 0 d)
 
-  pub too_many : {n : ℕ} → n ≡ get_or p 1 0 → 16 < n → 0 ≡ parties_in p
+  pub too_few : {k n : ℕ} → k ≡ get_or p 0 0 → k ≡ 0 → n ≡ get_or p 1 0 → n ≡ 0 → None ≡ parties_in p
   unfolding parties_in
-  too_many {n} e l = rw (← e, lt-leb n 16 l) (go (eqb (get_or p 0 0) 0))
-    where
-      go : (a : Bool) → 0 ≡ cond (a && false) n 0
-      go true = refl
-      go false = refl
+  too_few {k} {n} e z f l = rw (← e, ← f, eq-eqb k 0 z, l)
 
-  pub parties_are : {k n : ℕ} → k ≡ get_or p 0 0 → k ≡ 0 → n ≡ get_or p 1 0 → n ≤ 16 → n ≡ parties_in p
+  pub too_many : {k n : ℕ} → k ≡ get_or p 0 0 → k ≡ 0 → n ≡ get_or p 1 0 → 16 < n → None ≡ parties_in p
   unfolding parties_in
-  parties_are {k} {n} e z f l = rw (← e, ← f, eq-eqb k 0 z, le-leb n 16 l)
+  too_many {k} {n} e z f l = rw (← e, ← f, eq-eqb k 0 z, le-leb 1 n (omega arith), lt-leb n 16 l)
+
+  pub parties_are : {k n : ℕ} → k ≡ get_or p 0 0 → k ≡ 0 → n ≡ get_or p 1 0 → (n ≡ 0 → ⊥) → n ≤ 16 → Some n ≡ parties_in p
+  unfolding parties_in
+  parties_are {k} {n} e z f d l = rw (← e, ← f, eq-eqb k 0 z, le-leb 1 n (omega arith), le-leb n 16 l)

@@ -48,9 +48,9 @@ found_at p n own at =
     (Some (record { next = at + 1 + body_length (get_or p at 0); reach = reach_of (node_in p at) }))
     None
 
--- the n of a good first record, else 0
-unfoldable pub parties_in : List ℕ → ℕ
-parties_in p = cond (eqb (get_or p 0 0) 0 && leb (get_or p 1 0) max_parties) (get_or p 1 0) 0
+-- the n of a good first record
+unfoldable pub parties_in : List ℕ → Option ℕ
+parties_in p = cond (eqb (get_or p 0 0) 0 && leb 1 (get_or p 1 0) && leb (get_or p 1 0) max_parties) (Some (get_or p 1 0)) None
 
 -- the records after the first
 abbrev pub scanned : List ℕ → ℕ → Scanned

@@ -9,12 +9,17 @@ use crate::fields::fields_fit;
 use limits::Party;
 use nodes::{Node, byte, half};
 
+// How many parties and nodes a good program has.
 #[derive(Clone, Copy)]
-pub enum Verdict {
-    // the number of parties, and of nodes
-    Good(u8, u16),
-    // where the first bad record starts
-    Bad(usize),
+pub struct Good {
+    pub parties: u8,
+    pub nodes: u16,
+}
+
+// Where the first bad record starts.
+#[derive(Clone, Copy)]
+pub struct BadRecord {
+    pub place: usize,
 }
 
 // What is found of a good record.
@@ -25,18 +30,21 @@ struct Found {
     reach: usize,
 }
 
-// n, of a good first record; else 0.
-fn parties_of(program: &[u8]) -> u8
+// n, of a good first record.
+fn parties_of(program: &[u8]) -> Option<u8>
     ensures { result ≡ parties_in program.now }
 {
     let n = byte(program, 1);
     if byte(program, 0) != 0 {
-        return 0;
+        return None;
+    }
+    if n == 0 {
+        return None;
     }
     if Party::MAX < n {
-        return 0;
+        return None;
     }
-    n
+    Some(n)
 }
 
 // One more than the node that a CALL names: so many nodes its program has to have. 0 for any other record.
@@ -97,30 +105,33 @@ fn lost_call(program: &[u8], n: u8, nodes: usize) -> usize
     at
 }
 
-pub fn check(program: &[u8]) -> Verdict
+pub fn check(program: &[u8]) -> Result<Good, BadRecord>
     ensures { told result ≡ check_answer program.now }
 {
-    let n = parties_of(program);
-    if n == 0 {
-        return Verdict::Bad(0);
-    }
+    let Some(parties) = parties_of(program) else {
+        return Err(BadRecord { place: 0 });
+    };
     let mut at = 2;
     let mut own = 0;
     let mut reach = 0;
     while at < program.len() {
-        let Some(found) = record_at(program, n, own, at) else {
-            return Verdict::Bad(at);
+        let Some(found) = record_at(program, parties, own, at) else {
+            return Err(BadRecord { place: at });
         };
         at = found.next;
         own += 1;
         reach = greater(reach, found.reach);
     }
     if own == 0 {
-        return Verdict::Bad(program.len());
+        return Err(BadRecord {
+            place: program.len(),
+        });
     }
     if reach <= own {
         let nodes = own as u16;
-        return Verdict::Good(n, nodes);
+        return Ok(Good { parties, nodes });
     }
-    Verdict::Bad(lost_call(program, n, own))
+    Err(BadRecord {
+        place: lost_call(program, parties, own),
+    })
 }
