@@ -17,7 +17,7 @@ use Rattle.words.proofs.WordLaws.{length_bytes, number_same, number_in}
 use Rattle.limits.specs.Limits.{max_names, max_frames, deeper_than}
 use Rattle.parties.specs.SetBytes.{set_bytes, set_at}
 use Rattle.limits.specs.declared.Depth.{Depth}
-use Rattle.limits.specs.declared.MadeDepth.TheVariants.{Is, Not}
+use Rattle.std.proofs.Common.{Some, None}
 use Rattle.limits.specs.declared.Name.{Name}
 use Rattle.parties.specs.declared.sets.PartySet.{PartySet}
 use Rattle.cells.specs.Cells.{width, cell_bytes, Ranged}
@@ -76,7 +76,7 @@ handed v d at body mode w w' deep few place b m n =
     }
 
 -- ---- a frame is put down
-deeper_made : (d e : Depth) → deeper_than d ≡ Is e → (d.frames < max_frames) × (e ≡ record { frames = d.frames + 1 })
+deeper_made : (d e : Depth) → deeper_than d ≡ Some e → (d.frames < max_frames) × (e ≡ record { frames = d.frames + 1 })
 deeper_made d e m =
     elim (dec_lt d.frames max_frames) [
       | yes h ↦ (h, let r = rw (lt-ltb d.frames max_frames h) at m in cc)
@@ -86,7 +86,7 @@ deeper_made d e m =
           absurd (omega arith)
     ]
 
-pub no_deeper : (x : Name) (e1 e2 : ℕ) (t : Stand) (w : List ℕ) → deeper_than t.depth ≡ Not → Goes Full (move (Down x e1 e2) (control_of t w)) w w
+pub no_deeper : (x : Name) (e1 e2 : ℕ) (t : Stand) (w : List ℕ) → deeper_than t.depth ≡ None → Goes Full (move (Down x e1 e2) (control_of t w)) w w
 unfolding next_of move control_of
 no_deeper x e1 e2 t w m =
     elim (dec_lt t.depth.frames max_frames) [
@@ -189,7 +189,7 @@ module _ (d : ℕ) (w w' : List ℕ) (few : d < max_frames) (room : row_size ≤
 
 module _ (x : Name) (e1 e2 : ℕ) (t : Stand) (up : Depth) (at : ℕ) (w w1 w2 w' : List ℕ) (room : row_size ≤ length w) (body-fits : e2 < 2 ^ 16) (mode-fits : t.mode.bits < 2 ^ 16)
     (place : at ≡ level_at t.depth.frames) (stored : w1 ≡ sets (set w (at + 144) x.index) (at + 145) (low_first 2 e2)) (moded : w2 ≡ sets w1 (at + 147) (set_bytes t.mode))
-    (copy : w' ≡ copied w2 at (at + level_size) 144) (deeper : deeper_than t.depth ≡ Is up) where
+    (copy : w' ≡ copied w2 at (at + level_size) 144) (deeper : deeper_than t.depth ≡ Some up) where
   pub put_down : Goes (On (record { node = e1; mode = t.mode; depth = up })) (move (Down x e1 e2) (control_of t w)) w w'
   unfolding next_of move control_of written
   put_down =

@@ -7,7 +7,7 @@ ghost use Rattle.area.specs.Levels.{level_at, frames_of, control_of, Goes};
 ghost use Rattle.area.specs.Binding.{Binds};
 
 use crate::stand::{Next, Stand};
-use limits::{Depth, MadeDepth, Name};
+use limits::{Depth, Name};
 use rules::effects::Move;
 use values::value::Value;
 
@@ -78,7 +78,7 @@ pub fn put_down(x: Name, e1: u16, e2: u16, t: Stand, w: &mut [u8]) -> Next
 {
     let depth = t.depth;
     let mode = t.mode;
-    let MadeDepth::Is(deeper) = depth.deeper() else {
+    let Some(deeper) = depth.deeper() else {
         return Next::Full;
     };
     let at = level_at(depth);

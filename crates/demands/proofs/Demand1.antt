@@ -5,8 +5,9 @@ use mathlib.Core.Bool.{Bool, true, false, cond}
 use mathlib.Core.List.{List}
 use Rattle.program.specs.Answer.{CheckAnswer, accepted, refused}
 use Rattle.program.specs.Answer as Check
-use Rattle.program.specs.declared.check.Verdict.{Verdict}
-use Rattle.program.specs.declared.check.Verdict.TheVariants as Verdict'
+use Rattle.std.proofs.Common.{Result, Ok, Err}
+use Rattle.program.specs.declared.check.Good.{Good}
+use Rattle.program.specs.declared.check.BadRecord.{BadRecord}
 use Rattle.walk.specs.Walk.{StepAnswer, event, end}
 use Rattle.walk.specs.Walk as Walk
 use Rattle.walk.specs.declared.Step.{Step}
@@ -25,14 +26,14 @@ use Rattle.demands.proofs.Stops.{single_number, joint_number}
 use Rattle.demands.proofs.SiteStops.{book_stops, record_stops}
 
 -- no two answers say the same
-untold_check : CheckAnswer → Verdict
-untold_check (accepted n k) = Verdict'.Good n k
-untold_check (refused number place) = Verdict'.Bad place
+untold_check : CheckAnswer → Result Good BadRecord
+untold_check (accepted n k) = Ok (record { parties = n; nodes = k })
+untold_check (refused number place) = Err (record { place = place })
 
-check_back : (r : Verdict) → untold_check (Check.told r) ≡ r
+check_back : (r : Result Good BadRecord) → untold_check (Check.told r) ≡ r
 unfolding untold_check
-check_back (Verdict'.Good n k) = refl
-check_back (Verdict'.Bad place) = refl
+check_back (Ok g) = refl
+check_back (Err b) = refl
 
 untold_step : StepAnswer → Step
 untold_step (event e next) = Step'.Event e (record { at = next })

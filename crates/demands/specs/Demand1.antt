@@ -2,13 +2,14 @@
 -- call changes no lent byte; every run ends." No public call has a `requires`, and each has an `ensures` that is one equation with a total
 -- function; that a call ends is part of its proof. What is said here of those contracts: each allows one answer and one content of every
 -- lent slice, and a refused call leaves all as it was.
-use Rattle.std.specs.Prelude.{ℕ, ◌≤◌, ◌<◌, ◌≡◌}
+use Rattle.std.specs.Prelude.{ℕ, ◌≤◌, ◌<◌, ◌≡◌, Result}
 use mathlib.Core.List.{List, Memᴰ}
 use Rattle.std.specs.Borrow.{Bor}
 use Rattle.program.specs.Answer.{check_answer}
 use Rattle.program.specs.Answer as Check
 use Rattle.program.specs.Check.{Program, good, checked}
-use Rattle.program.specs.declared.check.Verdict.{Verdict}
+use Rattle.program.specs.declared.check.Good.{Good}
+use Rattle.program.specs.declared.check.BadRecord.{BadRecord}
 use Rattle.walk.specs.Walk.{step_answer}
 use Rattle.walk.specs.Walk as Walk
 use Rattle.order.specs.Order.{order_of, Continues}
@@ -63,7 +64,7 @@ SiteStops events = (number node : ℕ) → Memᴰ (Stopped number node) events �
 
 pub record Demand1 : Type 0 where
   -- program::check::check
-  pub check : (bs : List ℕ) (r r' : Verdict) → Check.told r ≡ check_answer bs → Check.told r' ≡ check_answer bs → r ≡ r'
+  pub check : (bs : List ℕ) (r r' : Result Good BadRecord) → Check.told r ≡ check_answer bs → Check.told r' ≡ check_answer bs → r ≡ r'
   -- walk::Cursor::step
   pub step : (bs : List ℕ) (at : ℕ) (r r' : Step) → Walk.told r ≡ step_answer bs at → Walk.told r' ≡ step_answer bs at → r ≡ r'
   -- reader::Reader::event and reader::event_at have the contract of `step`; reader::Reader::new and moved_on hand back a reader, which is a slice and a place

@@ -15,7 +15,6 @@ use ends::BadTurn;
 use inputs::counts_fit;
 use limits::Depth;
 use parties::sets::PartySet;
-use program::check::Verdict;
 use records::events::Event;
 
 #[derive(Clone, Copy)]
@@ -183,9 +182,9 @@ pub fn run(
     ensures { Is (joint_call (record { program = program.now; counts = counts.now; inputs = inputs.now; records = bytes.old; lengths = lengths.old; work = work.old }) turns.now) result bytes.new lengths.new work.new }
 {
     match program::check::check(program) {
-        Verdict::Bad(place) => Answer::Refused(refusals::BAD_PROGRAM, place),
-        Verdict::Good(n, nodes) => run_good(
-            program, n, nodes, counts, inputs, turns, bytes, lengths, work,
+        Err(bad) => Answer::Refused(refusals::BAD_PROGRAM, bad.place),
+        Ok(good) => run_good(
+            program, good.parties, good.nodes, counts, inputs, turns, bytes, lengths, work,
         ),
     }
 }

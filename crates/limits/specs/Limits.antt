@@ -1,12 +1,8 @@
 -- The limits of document 01, each with the kind of thing that it limits.
-use Rattle.std.specs.Prelude.{ℕ, ◌+◌, ◌&&◌, cond, ltb, leb}
+use Rattle.std.specs.Prelude.{ℕ, ◌+◌, ◌&&◌, cond, ltb, leb, Option, Some, None}
+use Rattle.limits.specs.declared.Party.{Party}
+use Rattle.limits.specs.declared.Name.{Name}
 use Rattle.limits.specs.declared.Depth.{Depth}
-use Rattle.limits.specs.declared.MadeParty.{MadeParty}
-use Rattle.limits.specs.declared.MadeParty.TheVariants as Party'
-use Rattle.limits.specs.declared.MadeName.{MadeName}
-use Rattle.limits.specs.declared.MadeName.TheVariants as Name'
-use Rattle.limits.specs.declared.MadeDepth.{MadeDepth}
-use Rattle.limits.specs.declared.MadeDepth.TheVariants as Depth'
 
 -- "n from 1 to 16"
 abbrev pub max_parties : ℕ
@@ -21,14 +17,14 @@ abbrev pub max_frames : ℕ
 max_frames = 64
 
 -- "Party a is below n."
-abbrev pub party_of : ℕ → ℕ → MadeParty
-party_of i n = cond (ltb i n && ltb i max_parties) (Party'.Is (record { index = i })) Party'.Not
+abbrev pub party_of : ℕ → ℕ → Option Party
+party_of i n = cond (ltb i n && ltb i max_parties) (Some (record { index = i })) None
 
-abbrev pub name_of : ℕ → MadeName
-name_of x = cond (ltb x max_names) (Name'.Is (record { index = x })) Name'.Not
+abbrev pub name_of : ℕ → Option Name
+name_of x = cond (ltb x max_names) (Some (record { index = x })) None
 
-abbrev pub depth_of : ℕ → MadeDepth
-depth_of k = cond (leb k max_frames) (Depth'.Is (record { frames = k })) Depth'.Not
+abbrev pub depth_of : ℕ → Option Depth
+depth_of k = cond (leb k max_frames) (Some (record { frames = k })) None
 
-abbrev pub deeper_than : Depth → MadeDepth
-deeper_than d = cond (ltb d.frames max_frames) (Depth'.Is (record { frames = d.frames + 1 })) Depth'.Not
+abbrev pub deeper_than : Depth → Option Depth
+deeper_than d = cond (ltb d.frames max_frames) (Some (record { frames = d.frames + 1 })) None

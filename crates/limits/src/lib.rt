@@ -9,26 +9,20 @@ pub struct Party {
     pub index: u8,
 }
 
-#[derive(Clone, Copy)]
-pub enum MadeParty {
-    Is(Party),
-    Not,
-}
-
 impl Party {
     // There are at most so many parties, numbered from 0.
     pub const MAX: u8 = 16;
 
     // The party i of n.
-    pub fn new(i: u8, n: u8) -> MadeParty
+    pub fn new(i: u8, n: u8) -> Option<Party>
         ensures { result ≡ party_of i n }
     {
         if i < n {
             if i < Party::MAX {
-                return MadeParty::Is(Party { index: i });
+                return Some(Party { index: i });
             }
         }
-        MadeParty::Not
+        None
     }
 }
 
@@ -37,23 +31,17 @@ pub struct Name {
     pub index: u8,
 }
 
-#[derive(Clone, Copy)]
-pub enum MadeName {
-    Is(Name),
-    Not,
-}
-
 impl Name {
     // There are so many names, numbered from 0.
     pub const MAX: u8 = 16;
 
-    pub fn new(x: u8) -> MadeName
+    pub fn new(x: u8) -> Option<Name>
         ensures { result ≡ name_of x }
     {
         if x < Name::MAX {
-            MadeName::Is(Name { index: x })
+            Some(Name { index: x })
         } else {
-            MadeName::Not
+            None
         }
     }
 }
@@ -64,35 +52,29 @@ pub struct Depth {
     pub frames: u8,
 }
 
-#[derive(Clone, Copy)]
-pub enum MadeDepth {
-    Is(Depth),
-    Not,
-}
-
 impl Depth {
     // At most so many frames are down.
     pub const MAX: u8 = 64;
 
-    pub fn new(k: u8) -> MadeDepth
+    pub fn new(k: u8) -> Option<Depth>
         ensures { result ≡ depth_of k }
     {
         if k <= Depth::MAX {
-            MadeDepth::Is(Depth { frames: k })
+            Some(Depth { frames: k })
         } else {
-            MadeDepth::Not
+            None
         }
     }
 
     // One frame more.
-    pub fn deeper(self) -> MadeDepth
+    pub fn deeper(self) -> Option<Depth>
         ensures { result ≡ deeper_than self }
     {
         let k = self.frames;
         if k < Depth::MAX {
-            MadeDepth::Is(Depth { frames: k + 1 })
+            Some(Depth { frames: k + 1 })
         } else {
-            MadeDepth::Not
+            None
         }
     }
 }

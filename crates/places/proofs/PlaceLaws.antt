@@ -13,9 +13,10 @@ use Rattle.words.proofs.WordLaws.{number_same, number_back}
 use Rattle.program.specs.Kinds.{body_of}
 use Rattle.places.specs.Places.{length_of, next_at, place_of, Tabled}
 use Rattle.places.specs.GoodLaws.{length_short, place_near}
-use Rattle.program.specs.declared.kinds.Body.{Body}
+use Rattle.std.proofs.Common.{Option}
+use Rattle.program.specs.declared.kinds.Rule.{Rule}
 
-module _ (p : List ℕ) (at : ℕ) {x : Body} (e : body_of (get_or p at 0) ≡ x) where
+module _ (p : List ℕ) (at : ℕ) {x : Option (ℕ × Rule)} (e : body_of (get_or p at 0) ≡ x) where
   pub length_below : length_of x ≤ 5
   length_below = rw e at (length_short (get_or p at 0))
 

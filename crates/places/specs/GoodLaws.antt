@@ -15,7 +15,8 @@ use Rattle.program.specs.Check.{is_name, fits, Placed, Scanned, scan, calls, bad
 use Rattle.places.specs.Places.{length_of, next_at, place_of, Tabled}
 use Rattle.program.specs.ScanLaws.{both, body_short, after, from, scan_next}
 use Rattle.nodes.specs.declared.Node.TheVariants.{READ, LET, CASE, PAR, CALL}
-use Rattle.program.specs.declared.kinds.Body.TheVariants as Body'
+use Rattle.std.proofs.Common.{Some, None}
+use Rattle.program.specs.declared.kinds.Rule.{Rule}
 
 -- ---- places
 
@@ -27,7 +28,7 @@ pub length_short : (k : ℕ) → length_of (body_of k) ≤ 5
 unfolding body_of
 length_short k = go (is_node_kind k)
   where
-    go : (t : Bool) → length_of (cond t (Body'.Node (body_length k) (rule_of k)) Body'.Unknown) ≤ 5
+    go : (t : Bool) → length_of (let b : ℕ × Rule = (body_length k, rule_of k) in cond t (Some b) None) ≤ 5
     go true = body_short k
     go false = omega arith
 

@@ -1,13 +1,12 @@
 -- Where the nodes of a program start, read off its kind bytes alone, and the table of these places.
-use Rattle.std.specs.Prelude.{ℕ, zero, suc, ◌+◌, ◌*◌, ◌<◌, ◌≡◌, List, get_or, drop}
+use Rattle.std.specs.Prelude.{ℕ, zero, suc, ◌+◌, ◌*◌, ◌<◌, ◌≡◌, List, get_or, drop, Option, Some, None}
 use Rattle.words.specs.Words.{number_at}
 use Rattle.program.specs.Kinds.{body_of}
-use Rattle.program.specs.declared.kinds.Body.{Body}
-use Rattle.program.specs.declared.kinds.Body.TheVariants as Body'
+use Rattle.program.specs.declared.kinds.Rule.{Rule}
 
-abbrev pub length_of : Body → ℕ
-length_of (Body'.Node l r) = l
-length_of Body'.Unknown = 0
+abbrev pub length_of : Option (ℕ × Rule) → ℕ
+length_of (Some (l, r)) = l
+length_of None = 0
 
 -- where the record after the one at a place starts
 unfoldable pub next_at : List ℕ → ℕ → ℕ

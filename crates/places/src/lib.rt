@@ -6,15 +6,14 @@ ghost use Rattle.words.specs.Words.{number_at};
 ghost use Rattle.places.specs.Places.{next_at, Tabled};
 
 use nodes::{byte, half};
-use program::kinds::Body;
 
 fn next_at(program: &[u8], at: usize) -> usize
     requires { at < 65536 }
     ensures { result ≡ next_at program.now at }
 {
     match program::kinds::body_of(byte(program, at)) {
-        Body::Node(length, _) => at + 1 + length,
-        Body::Unknown => at + 1,
+        Some((length, _)) => at + 1 + length,
+        None => at + 1,
     }
 }
 

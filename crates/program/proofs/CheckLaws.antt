@@ -16,51 +16,51 @@ use Rattle.program.specs.Answer.{CheckAnswer, accepted, refused, answer_of, chec
 use Rattle.program.specs.Records.{reach_of, found_at, parties_in, scanned, AllGood}
 use Rattle.nodes.specs.declared.Node.{Node}
 use Rattle.nodes.specs.declared.Node.TheVariants.{VAR, INT, OP, MUX, READ, WRITE, EMBED, SHARE, REVEAL, LET, CASE, PAR, CALL}
-use Rattle.program.specs.declared.check.Found.TheVariants as Found'
+use Rattle.std.proofs.Common.{Some, None, true≢false}
+use Rattle.std.proofs.lemmas.Option.{none-some, cond_some}
 use Rattle.program.specs.ScanLaws.{placed, from, scan_end}
 use Rattle.program.proofs.ScanSteps.{scan_bad, scan_good}
 
 -- ---- the first record
 
-pub parties_bad : (p : List ℕ) → parties_in p ≡ 0 → checked p ≡ Checked.bad 0
+pub parties_bad : (p : List ℕ) → parties_in p ≡ None → checked p ≡ Checked.bad 0
 unfolding parties_in checked
 parties_bad [] e = refl
 parties_bad (k ∷ []) e = refl
-parties_bad (k ∷ n ∷ bs) e = go (eqb k 0) (leb 1 n) (leb n 16) refl e (verdict n (2 + length bs) (scan n 0 2 0 bs))
+parties_bad (k ∷ n ∷ bs) e = go (eqb k 0 && leb 1 n && leb n 16) e (verdict n (2 + length bs) (scan n 0 2 0 bs))
   where
-    go : (a b c : Bool) → leb 1 n ≡ b → cond (a && c) n 0 ≡ 0 → (v : Checked) → cond (a && b && c) v (Checked.bad 0) ≡ Checked.bad 0
-    go true true true q f v = absurd (omega (arith, leb-true 1 n q))
-    go true true false q f v = refl
-    go true false c q f v = refl
-    go false b c q f v = refl
+    go : (t : Bool) → cond t (Some n) None ≡ None → (v : Checked) → cond t v (Checked.bad 0) ≡ Checked.bad 0
+    go true f v = absurd (none-some n (sym f))
+    go false f v = refl
 
-pub parties_good : (p : List ℕ) (n : ℕ) → n ≡ parties_in p → (n ≡ 0 → ⊥) → (checked p ≡ verdict n (length p) (scanned p n)) × (n ≤ 16)
+pub parties_good : (p : List ℕ) (n : ℕ) → parties_in p ≡ Some n → (checked p ≡ verdict n (length p) (scanned p n)) × (n ≤ 16)
 unfolding parties_in checked
-parties_good [] n e z = absurd (z e)
-parties_good (k ∷ []) n e z = absurd (z (go (eqb k 0) e))
+parties_good [] n e = absurd (none-some n e)
+parties_good (k ∷ []) n e = absurd (go (eqb k 0) (cond_some (eqb k 0 && leb 1 0 && leb 0 16) 0 n e).0)
   where
-    go : (a : Bool) → n ≡ cond (a && leb 0 16) 0 0 → n ≡ 0
-    go true f = f
-    go false f = f
-parties_good (k ∷ m ∷ bs) n e z = go (eqb k 0) (leb m 16) refl e
+    go : (a : Bool) → (a && leb 1 0 && leb 0 16) ≡ true → ⊥
+    go true f = true≢false (sym f)
+    go false f = true≢false (sym f)
+parties_good (k ∷ m ∷ bs) n e =
+    let q = cond_some (eqb k 0 && leb 1 m && leb m 16) m n e in
+    let l : 2 + length bs ≡ suc (suc (length bs)) = omega arith in
+    (rw (q.0, q.1, l), go (eqb k 0) (leb 1 m) (leb m 16) refl q.0)
   where
-    go : (a c : Bool) → leb m 16 ≡ c → n ≡ cond (a && c) m 0
-        → (cond (a && leb 1 m && c) (verdict m (2 + length bs) (scan m 0 2 0 bs)) (Checked.bad 0) ≡ verdict n (suc (suc (length bs))) (scan n 0 2 0 bs)) × (n ≤ 16)
-    go true true q f =
-        let l : 2 + length bs ≡ suc (suc (length bs)) = omega arith in
-        (rw (le-leb 1 m (omega arith), f, l), omega (arith, leb-true m 16 q))
-    go true false q f = absurd (z f)
-    go false c q f = absurd (z f)
+    go : (a b c : Bool) → leb m 16 ≡ c → (a && b && c) ≡ true → n ≤ 16
+    go true true true r f = rw (← (cond_some (eqb k 0 && leb 1 m && leb m 16) m n e).1) (leb-true m 16 r)
+    go true true false r f = absurd (true≢false (sym f))
+    go true false c r f = absurd (true≢false (sym f))
+    go false b c r f = absurd (true≢false (sym f))
 
 module _ (p : List ℕ) where
-  pub answer_none : parties_in p ≡ 0 → refused bad_program 0 ≡ check_answer p
+  pub answer_none : parties_in p ≡ None → refused bad_program 0 ≡ check_answer p
   unfolding check_answer
   answer_none e = sym (ap answer_of (parties_bad p e))
 
-  module _ (n : ℕ) (e : n ≡ parties_in p) (z : n ≡ 0 → ⊥) where
+  module _ (n : ℕ) (e : parties_in p ≡ Some n) where
     pub answer_is : (a : CheckAnswer) → answer_of (verdict n (length p) (scanned p n)) ≡ a → a ≡ check_answer p
     unfolding check_answer
-    answer_is a f = sym (ap answer_of (parties_good p n e z).0 ∙ f)
+    answer_is a f = sym (ap answer_of (parties_good p n e).0 ∙ f)
 
     pub answer_bad : (place : ℕ) → verdict n (length p) (scanned p n) ≡ Checked.bad place → refused bad_program place ≡ check_answer p
     answer_bad place f = answer_is (refused bad_program place) (ap answer_of f)
@@ -160,11 +160,11 @@ going_start p n = record { seen = []; left = refl; count = refl; covers = λ k h
 
 module _ (p : List ℕ) (n own at reach : ℕ) (g : Going p n own at reach) where
   module _ (h : at < length p) where
-    pub going_bad : found_at p n own at ≡ Found'.Bad → verdict n (length p) (scanned p n) ≡ Checked.bad at
+    pub going_bad : found_at p n own at ≡ None → verdict n (length p) (scanned p n) ≡ Checked.bad at
     unfolding verdict
     going_bad e = rw (g.left, scan_bad p n own at h e, prepended_bad g.seen at)
 
-    pub going_on : (next r : ℕ) → found_at p n own at ≡ Found'.Good next r → Going p n (own + 1) next (max reach r)
+    pub going_on : (next r : ℕ) → found_at p n own at ≡ Some (record { next = next; reach = r }) → Going p n (own + 1) next (max reach r)
     unfolding bad_call
     going_on next r e =
         let s = scan_good p n own at h next r e in

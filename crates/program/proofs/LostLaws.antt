@@ -7,7 +7,7 @@ use native.Mathlib.Omega.{arith}
 use lib.ListN.{length}
 use Rattle.program.specs.Check.{Placed, Scanned, bad_call, verdict}
 use Rattle.program.specs.Records.{found_at, AllGood, LostAt}
-use Rattle.program.specs.declared.check.Found.TheVariants as Found'
+use Rattle.std.proofs.Common.{Some, None}
 use Rattle.program.specs.ScanLaws.{placed, from, scan_end, split}
 use Rattle.program.proofs.ScanSteps.{scan_bad, scan_good}
 use Rattle.program.proofs.CheckLaws.{call_found, call_lost, verdict_lost}
@@ -40,12 +40,12 @@ module _ (p : List ℕ) (n k own at : ℕ) (g : Seeking p n k own at) where
       g.lost (ap (λ (xs : List Placed). bad_call k xs) f)
 
   module _ (h : at < length p) where
-    pub seeking_bad : found_at p n own at ≡ Found'.Bad → ⊥
+    pub seeking_bad : found_at p n own at ≡ None → ⊥
     seeking_bad e =
         let f : Scanned.bad at ≡ Scanned.nodes g.ahead = sym (scan_bad p n own at h e) ∙ g.left in
         let z : ◌≡◌ {A = ℕ} 0 1 = cc in omega arith
 
-    module _ (next r : ℕ) (e : found_at p n own at ≡ Found'.Good next r) where
+    module _ (next r : ℕ) (e : found_at p n own at ≡ Some (record { next = next; reach = r })) where
       pub seeking_here : k < r → LostAt p n at
       seeking_here l =
           let s = scan_good p n own at h next r e in

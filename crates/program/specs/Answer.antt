@@ -1,9 +1,9 @@
 -- What the check answers, in document 01's numbers.
-use Rattle.std.specs.Prelude.{ℕ, List, length}
+use Rattle.std.specs.Prelude.{ℕ, List, length, Result, Ok, Err}
 use Rattle.refusals.specs.Numbers.{bad_program}
 use Rattle.program.specs.Check.{Checked, good, bad, checked}
-use Rattle.program.specs.declared.check.Verdict.{Verdict}
-use Rattle.program.specs.declared.check.Verdict.TheVariants as Verdict'
+use Rattle.program.specs.declared.check.Good.{Good}
+use Rattle.program.specs.declared.check.BadRecord.{BadRecord}
 
 pub data CheckAnswer : Type 0 where
   accepted : (parties nodes : ℕ) → CheckAnswer
@@ -18,6 +18,6 @@ unfoldable pub check_answer : List ℕ → CheckAnswer
 check_answer p = answer_of (checked p)
 
 -- what the code's answer says
-abbrev pub told : Verdict → CheckAnswer
-told (Verdict'.Good n k) = accepted n k
-told (Verdict'.Bad place) = refused bad_program place
+abbrev pub told : Result Good BadRecord → CheckAnswer
+told (Ok g) = accepted g.parties g.nodes
+told (Err b) = refused bad_program b.place

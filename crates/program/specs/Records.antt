@@ -1,5 +1,5 @@
 -- A record as the code reads it, at its place: what the private functions of the check answer.
-use Rattle.std.specs.Prelude.{ℕ, ◌+◌, ◌≡◌, Bool, true, ◌&&◌, cond, List, eqb, ltb, leb, length, get_or, drop}
+use Rattle.std.specs.Prelude.{ℕ, ◌+◌, ◌≡◌, Bool, true, ◌&&◌, cond, List, eqb, ltb, leb, length, get_or, drop, Option, Some, None}
 use Rattle.std.proofs.Math.Option.{none}
 use Rattle.words.specs.Words.{number_at}
 use Rattle.limits.specs.Limits.{max_parties}
@@ -12,7 +12,6 @@ use Rattle.program.specs.declared.kinds.Rule.TheVariants.{Free, OneName, Operati
 use Rattle.nodes.specs.declared.Node.{Node}
 use Rattle.nodes.specs.declared.Node.TheVariants.{VAR, INT, OP, MUX, READ, WRITE, EMBED, SHARE, REVEAL, LET, CASE, PAR, CALL}
 use Rattle.program.specs.declared.check.Found.{Found}
-use Rattle.program.specs.declared.check.Found.TheVariants as Found'
 
 -- the fields of a body b fit their rule: `fits`, said of the bytes
 unfoldable pub rule_fits : Rule → (b : List ℕ) (n own : ℕ) → Bool
@@ -43,15 +42,15 @@ reach_of (CASE x e1 e2) = 0
 reach_of (PAR p e) = 0
 
 -- the record at a place: where the next one starts and its reach, if it is a good node numbered `own`
-unfoldable pub found_at : List ℕ → (n own at : ℕ) → Found
+unfoldable pub found_at : List ℕ → (n own at : ℕ) → Option Found
 found_at p n own at =
     cond (is_good n own (get_or p at 0) (drop (at + 1) p))
-    (Found'.Good (at + 1 + body_length (get_or p at 0)) (reach_of (node_in p at)))
-    Found'.Bad
+    (Some (record { next = at + 1 + body_length (get_or p at 0); reach = reach_of (node_in p at) }))
+    None
 
--- the n of a good first record, else 0
-unfoldable pub parties_in : List ℕ → ℕ
-parties_in p = cond (eqb (get_or p 0 0) 0 && leb (get_or p 1 0) max_parties) (get_or p 1 0) 0
+-- the n of a good first record
+unfoldable pub parties_in : List ℕ → Option ℕ
+parties_in p = cond (eqb (get_or p 0 0) 0 && leb 1 (get_or p 1 0) && leb (get_or p 1 0) max_parties) (Some (get_or p 1 0)) None
 
 -- the records after the first
 abbrev pub scanned : List ℕ → ℕ → Scanned

@@ -6,37 +6,45 @@ ghost use Rattle.program.specs.Records.{reach_of, found_at, parties_in, AllGood,
 ghost use Rattle.program.specs.Answer.{told, check_answer};
 
 use crate::fields::fields_fit;
-use crate::kinds::Body;
 use limits::Party;
 use nodes::{Node, byte, half};
 
+// How many parties and nodes a good program has.
 #[derive(Clone, Copy)]
-pub enum Verdict {
-    // the number of parties, and of nodes
-    Good(u8, u16),
-    // where the first bad record starts
-    Bad(usize),
+pub struct Good {
+    pub parties: u8,
+    pub nodes: u16,
 }
 
+// Where the first bad record starts.
 #[derive(Clone, Copy)]
-enum Found {
-    // where the next record starts, and the record's reach
-    Good(usize, usize),
-    Bad,
+pub struct BadRecord {
+    pub place: usize,
 }
 
-// n, of a good first record; else 0.
-fn parties_of(program: &[u8]) -> u8
+// What is found of a good record.
+#[derive(Clone, Copy)]
+struct Found {
+    // where the next record starts
+    next: usize,
+    reach: usize,
+}
+
+// n, of a good first record.
+fn parties_of(program: &[u8]) -> Option<u8>
     ensures { result ≡ parties_in program.now }
 {
     let n = byte(program, 1);
     if byte(program, 0) != 0 {
-        return 0;
+        return None;
+    }
+    if n == 0 {
+        return None;
     }
     if Party::MAX < n {
-        return 0;
+        return None;
     }
-    n
+    Some(n)
 }
 
 // One more than the node that a CALL names: so many nodes its program has to have. 0 for any other record.
@@ -52,25 +60,23 @@ fn reach_at(program: &[u8], at: usize) -> usize
 
 // The record at `at`, where the next node is numbered `own`.
 #[tactic(auto, using(crate::proofs::RecordLaws::found_full))]
-fn record_at(program: &[u8], n: u8, own: usize, at: usize) -> Found
+fn record_at(program: &[u8], n: u8, own: usize, at: usize) -> Option<Found>
     requires { (n ≤ max_parties) × (at < 65535) × (at < length program.now) }
     ensures { result ≡ found_at program.now n own at }
 {
     if Node::MAX <= own {
-        return Found::Bad;
+        return None;
     }
-    let Body::Node(length, rule) = crate::kinds::body_of(byte(program, at)) else {
-        return Found::Bad;
-    };
+    let (length, rule) = crate::kinds::body_of(byte(program, at))?;
     if program.len() - at - 1 < length {
-        return Found::Bad;
+        return None;
     }
     let next = at + 1 + length;
     let reach = reach_at(program, at);
     if fields_fit(rule, program, at + 1, n, own) {
-        return Found::Good(next, reach);
+        return Some(Found { next, reach });
     }
-    Found::Bad
+    None
 }
 
 fn greater(a: usize, b: usize) -> usize
@@ -87,7 +93,7 @@ fn lost_call(program: &[u8], n: u8, nodes: usize) -> usize
     let mut at = 2;
     let mut own = 0;
     while at < program.len() {
-        let Found::Good(next, reach) = record_at(program, n, own, at) else {
+        let Some(Found { next, reach }) = record_at(program, n, own, at) else {
             return at;
         };
         if nodes < reach {
@@ -99,30 +105,33 @@ fn lost_call(program: &[u8], n: u8, nodes: usize) -> usize
     at
 }
 
-pub fn check(program: &[u8]) -> Verdict
+pub fn check(program: &[u8]) -> Result<Good, BadRecord>
     ensures { told result ≡ check_answer program.now }
 {
-    let n = parties_of(program);
-    if n == 0 {
-        return Verdict::Bad(0);
-    }
+    let Some(parties) = parties_of(program) else {
+        return Err(BadRecord { place: 0 });
+    };
     let mut at = 2;
     let mut own = 0;
     let mut reach = 0;
     while at < program.len() {
-        let Found::Good(next, r) = record_at(program, n, own, at) else {
-            return Verdict::Bad(at);
+        let Some(found) = record_at(program, parties, own, at) else {
+            return Err(BadRecord { place: at });
         };
-        at = next;
+        at = found.next;
         own += 1;
-        reach = greater(reach, r);
+        reach = greater(reach, found.reach);
     }
     if own == 0 {
-        return Verdict::Bad(program.len());
+        return Err(BadRecord {
+            place: program.len(),
+        });
     }
     if reach <= own {
         let nodes = own as u16;
-        return Verdict::Good(n, nodes);
+        return Ok(Good { parties, nodes });
     }
-    Verdict::Bad(lost_call(program, n, own))
+    Err(BadRecord {
+        place: lost_call(program, parties, own),
+    })
 }

@@ -8,26 +8,20 @@ ghost use Rattle.program.specs.Check.{is_name, is_full};
 ghost use Rattle.program.specs.Records.{rule_fits};
 
 use crate::kinds::Rule;
-use limits::{MadeName, MadeParty, Name, Party};
+use limits::{Name, Party};
 use nodes::{byte, half, set_at};
 
 fn name_fits(p: &[u8], i: usize) -> bool
     ensures { result ≡ is_name (name_in p.now i) }
 {
-    match Name::new(byte(p, i)) {
-        MadeName::Is(_) => true,
-        MadeName::Not => false,
-    }
+    Name::new(byte(p, i)).is_some()
 }
 
 fn party_fits(p: &[u8], i: usize, n: u8) -> bool
     requires { n ≤ max_parties }
     ensures { result ≡ ltb (get_or p.now i 0) n }
 {
-    match Party::new(byte(p, i), n) {
-        MadeParty::Is(_) => true,
-        MadeParty::Not => false,
-    }
+    Party::new(byte(p, i), n).is_some()
 }
 
 // q: a set of parties below n that is not empty.

@@ -25,29 +25,22 @@ pub enum Rule {
     Call,
 }
 
-#[derive(Clone, Copy)]
-pub enum Body {
-    // the body's length
-    Node(usize, Rule),
-    // PARTIES, or no kind at all
-    Unknown,
-}
-
-pub fn body_of(kind: u8) -> Body
+// The length of a node's body, and its rule. PARTIES is no node, and neither is a byte that is no kind at all.
+pub fn body_of(kind: u8) -> Option<(usize, Rule)>
     ensures { result ≡ body_of kind }
 {
     match kind {
-        1 => Body::Node(1, Rule::OneName),
-        2 => Body::Node(4, Rule::Free),
-        3 => Body::Node(3, Rule::Operation),
-        4 => Body::Node(3, Rule::ThreeNames),
-        5 => Body::Node(0, Rule::Free),
-        6..=7 => Body::Node(1, Rule::OneName),
-        8 => Body::Node(4, Rule::Share),
-        9 => Body::Node(3, Rule::Reveal),
-        10..=11 => Body::Node(5, Rule::Parts),
-        12 => Body::Node(4, Rule::Par),
-        13 => Body::Node(3, Rule::Call),
-        _ => Body::Unknown,
+        1 => Some((1, Rule::OneName)),
+        2 => Some((4, Rule::Free)),
+        3 => Some((3, Rule::Operation)),
+        4 => Some((3, Rule::ThreeNames)),
+        5 => Some((0, Rule::Free)),
+        6..=7 => Some((1, Rule::OneName)),
+        8 => Some((4, Rule::Share)),
+        9 => Some((3, Rule::Reveal)),
+        10..=11 => Some((5, Rule::Parts)),
+        12 => Some((4, Rule::Par)),
+        13 => Some((3, Rule::Call)),
+        _ => None,
     }
 }

@@ -8,15 +8,14 @@ ghost use Rattle.rehearsal.specs.Spaces.{Filled, Holds, Exact, Rows, PutsAtMost}
 
 use cases::layout::{Layout, Parsed};
 use cases::lending::Lending;
-use program::check::Verdict;
 
 // The parties of a good program, or 0.
 fn parties_of(program: &[u8]) -> u8
     ensures { result ≡ parties_of (check_answer program.now) }
 {
     match program::check::check(program) {
-        Verdict::Good(n, _) => n,
-        Verdict::Bad(_) => 0,
+        Ok(good) => good.parties,
+        Err(_) => 0,
     }
 }
 

@@ -16,7 +16,7 @@ use Rattle.limits.specs.Limits.{max_frames, depth_of}
 use Rattle.parties.specs.SetBytes.{set_bytes}
 use Rattle.parties.specs.declared.sets.PartySet.{PartySet}
 use Rattle.limits.specs.declared.Depth.{Depth}
-use Rattle.limits.specs.declared.MadeDepth.TheVariants.{Is, Not}
+use Rattle.std.proofs.Common.{Some, None}
 use Rattle.area.specs.Rows.{row_size}
 use Rattle.area.specs.Levels.{control_of}
 use Rattle.seats.specs.Seats.{seat_place, running_at, seat_at, DeepSeat, Saves}
@@ -105,11 +105,11 @@ module _ (w : List ℕ) where
   unfolding seat_at
   load_stopped f r = rw (ne_eqb (get_or w seat_place 0) 1 f, ne_eqb (get_or w seat_place 0) 2 r)
 
-  pub load_not : get_or w seat_place 0 ≡ 2 → depth_of (get_or w (seat_place + 5) 0) ≡ Not → Stopped ≡ seat_at w
+  pub load_not : get_or w seat_place 0 ≡ 2 → depth_of (get_or w (seat_place + 5) 0) ≡ None → Stopped ≡ seat_at w
   unfolding seat_at
   load_not h d = rw (h, d)
 
-  pub load_running : (node : ℕ) (mode : PartySet) (depth : Depth) → get_or w seat_place 0 ≡ 2 → depth_of (get_or w (seat_place + 5) 0) ≡ Is depth
+  pub load_running : (node : ℕ) (mode : PartySet) (depth : Depth) → get_or w seat_place 0 ≡ 2 → depth_of (get_or w (seat_place + 5) 0) ≡ Some depth
       → node ≡ number_at 2 w (seat_place + 1) → mode ≡ record { bits = number_at 2 w (seat_place + 3) }
       → Running (record { node = node; mode = mode; depth = depth }) ≡ seat_at w
   unfolding seat_at
@@ -120,7 +120,7 @@ module _ (w : List ℕ) where
   unfolding seat_at
   seat_deep = go (eqb (get_or w seat_place 0) 1)
     where
-      deep : (k : ℕ) (t : Bool) → leb k max_frames ≡ t → DeepSeat (running_at w (cond t (Is (record { frames = k })) Not))
+      deep : (k : ℕ) (t : Bool) → leb k max_frames ≡ t → DeepSeat (running_at w (cond t (Some (record { frames = k })) None))
       deep k true h = leb-true k max_frames h
       deep k false h = tt
 

@@ -1,10 +1,9 @@
 -- Where a site is between its turns, as its area keeps it: how it is with it, and if it runs its node, its mode and how many frames are down.
-use Rattle.std.specs.Prelude.{◌≡◌, ℕ, ◌+◌, ◌≤◌, true, false, cond, List, eqb, get_or, take}
+use Rattle.std.specs.Prelude.{◌≡◌, ℕ, ◌+◌, ◌≤◌, true, false, cond, List, eqb, get_or, take, Option, Some, None}
 use Rattle.words.specs.Words.{number_at}
 use Rattle.limits.specs.Limits.{max_frames, depth_of}
 use Rattle.parties.specs.SetBytes.{set_at}
-use Rattle.limits.specs.declared.MadeDepth.{MadeDepth}
-use Rattle.limits.specs.declared.MadeDepth.TheVariants.{Is, Not}
+use Rattle.limits.specs.declared.Depth.{Depth}
 use Rattle.rules.specs.Books.{Book}
 use Rattle.rules.specs.Joint.{Site, running, over}
 use Rattle.area.specs.Levels.{table_size, level_at, control_of}
@@ -16,9 +15,9 @@ use Rattle.seats.specs.declared.Seat.TheVariants.{Running, Finished, Stopped}
 abbrev pub seat_place : ℕ
 seat_place = level_at (max_frames + 1)
 
-abbrev pub running_at : List ℕ → MadeDepth → Seat
-running_at w (Is d) = Running (record { node = number_at 2 w (seat_place + 1); mode = set_at w (seat_place + 3); depth = d })
-running_at w Not = Stopped
+abbrev pub running_at : List ℕ → Option Depth → Seat
+running_at w (Some d) = Running (record { node = number_at 2 w (seat_place + 1); mode = set_at w (seat_place + 3); depth = d })
+running_at w None = Stopped
 
 -- every byte string is some seat
 unfoldable pub seat_at : List ℕ → Seat

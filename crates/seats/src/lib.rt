@@ -6,7 +6,7 @@ ghost use Rattle.area.specs.Rows.{row_size};
 ghost use Rattle.seats.specs.Seats.{seat_at, Saves};
 
 use area::stand::Stand;
-use limits::{Depth, MadeDepth};
+use limits::Depth;
 
 #[derive(Clone, Copy)]
 pub enum Seat {
@@ -42,7 +42,7 @@ pub fn load_seat(w: &[u8]) -> Seat
     if how != RUNNING {
         return Seat::Stopped;
     }
-    let MadeDepth::Is(depth) = Depth::new(w[FRAMES]) else {
+    let Some(depth) = Depth::new(w[FRAMES]) else {
         return Seat::Stopped;
     };
     Seat::Running(Stand {

@@ -11,7 +11,6 @@ use area::stand::{AREA, ROW, Stand};
 use inputs::counts_fit;
 use limits::Depth;
 use parties::sets::PartySet;
-use program::check::Verdict;
 use records::events::Event;
 use single_step::Stepped;
 
@@ -170,9 +169,9 @@ pub fn run(
     ensures { Is (single_call (record { program = program.now; counts = counts.now; inputs = inputs.now; records = bytes.old; lengths = lengths.old; work = work.old }) budget) result bytes.new lengths.new work.new }
 {
     match program::check::check(program) {
-        Verdict::Bad(place) => Answer::Refused(refusals::BAD_PROGRAM, place),
-        Verdict::Good(n, nodes) => run_good(
-            program, n, nodes, counts, inputs, budget, bytes, lengths, work,
+        Err(bad) => Answer::Refused(refusals::BAD_PROGRAM, bad.place),
+        Ok(good) => run_good(
+            program, good.parties, good.nodes, counts, inputs, budget, bytes, lengths, work,
         ),
     }
 }

@@ -7,4 +7,4 @@ pub returns-in_default : goal.returns-in_default
 returns-in_default c = load_not c.args.w.now c.if-how-ne-RUNNING.false (sym c.new.ensures ∙ c.in_default.is)
 
 pub returns : goal.returns
-returns c = load_running c.args.w.now _ _ _ c.if-how-ne-RUNNING.false (sym c.new.ensures ∙ c.in-Is.is) c.load2.ensures c.load_set.ensures
+returns c = load_running c.args.w.now _ _ _ c.if-how-ne-RUNNING.false (sym c.new.ensures ∙ c.in-Some.is) c.load2.ensures c.load_set.ensures

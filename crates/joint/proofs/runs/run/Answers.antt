@@ -1,17 +1,16 @@
 -- `joint::runs::run` meets its contract. Assumes nothing.
 use mathlib.Core.Path.{sym, ap, ◌∙◌}
 use Rattle.program.specs.Answer.{told}
-use Rattle.program.specs.declared.check.Verdict.{Verdict}
 use Rattle.rules.specs.Lent.{Lent}
 use Rattle.rules.specs.Calls.{joint_of, joint_call}
 use Rattle.ledger.proofs.CallLaws.{lent, call_bad}
 use Rattle.joint.proofs.runs.run.Goals as goal
 
 pub run_good-requires : goal.run_good-requires
-run_good-requires c = sym c.check.ensures ∙ ap (λ (v : Verdict). told v) c.in-Good.is
+run_good-requires c = sym c.check.ensures ∙ ap told c.in-Ok.is
 
-pub returns-in-Bad : goal.returns-in-Bad
+pub returns-in-Err : goal.returns-in-Err
 unfolding joint_call joint_of
-returns-in-Bad c = let a = c.args in
+returns-in-Err c = let a = c.args in
     let L : Lent = lent a.program.now a.counts.now a.inputs.now a.bytes.now a.lengths.now a.work.now in
-    call_bad (joint_of L a.turns.now) L _ (sym c.check.ensures ∙ ap (λ (v : Verdict). told v) c.in-Bad.is)
+    call_bad (joint_of L a.turns.now) L _ (sym c.check.ensures ∙ ap told c.in-Err.is)

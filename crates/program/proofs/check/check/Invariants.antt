@@ -5,7 +5,7 @@ use Rattle.program.proofs.CheckLaws.{Going}
 use Rattle.program.proofs.check.check.Given as goal
 
 abbrev pub invariant-loop-at : goal.invariant-loop-at
-invariant-loop-at l = Going l.program l.n l.own l.at l.reach
+invariant-loop-at l = Going l.program l.parties l.own l.at l.reach
 
 abbrev pub decreases-loop-at : goal.decreases-loop-at
 decreases-loop-at l = length l.program - l.at

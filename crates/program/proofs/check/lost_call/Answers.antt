@@ -15,16 +15,16 @@ pub returns-in_default : goal.returns-in_default
 returns-in_default c = let a = c.args in absurd (seeking_bad a.program.now a.n a.nodes _ _ c.loop-at.invariant c.loop-at-test.true (sym c.record_at.ensures ∙ c.in_default.is))
 
 pub returns-then-nodes-reach : goal.returns-then-nodes-reach
-returns-then-nodes-reach c = let a = c.args in seeking_here a.program.now a.n a.nodes _ _ c.loop-at.invariant c.loop-at-test.true _ _ (sym c.record_at.ensures ∙ c.in-Good.is) c.if-nodes-reach.true
+returns-then-nodes-reach c = let a = c.args in seeking_here a.program.now a.n a.nodes _ _ c.loop-at.invariant c.loop-at-test.true _ _ (sym c.record_at.ensures ∙ c.in-Some.is) c.if-nodes-reach.true
 
 pub overflow_add-own : goal.overflow_add-own
 overflow_add-own c = omega (arith, c.loop-at.invariant.few)
 
 pub loop-at-smaller : goal.loop-at-smaller
-loop-at-smaller c = let a = c.args in let s = scan_good a.program.now a.n _ _ c.loop-at-test.true _ _ (sym c.record_at.ensures ∙ c.in-Good.is) in omega (arith, s.onward, s.inside)
+loop-at-smaller c = let a = c.args in let s = scan_good a.program.now a.n _ _ c.loop-at-test.true _ _ (sym c.record_at.ensures ∙ c.in-Some.is) in omega (arith, s.onward, s.inside)
 
 pub loop-at-preserved : goal.loop-at-preserved
-loop-at-preserved c = let a = c.args in seeking_on a.program.now a.n a.nodes _ _ c.loop-at.invariant c.loop-at-test.true _ _ (sym c.record_at.ensures ∙ c.in-Good.is) c.if-nodes-reach.false
+loop-at-preserved c = let a = c.args in seeking_on a.program.now a.n a.nodes _ _ c.loop-at.invariant c.loop-at-test.true _ _ (sym c.record_at.ensures ∙ c.in-Some.is) c.if-nodes-reach.false
 
 pub returns : goal.returns
 returns c = let a = c.args in absurd (seeking_end a.program.now a.n a.nodes _ _ c.loop-at.invariant c.loop-at-test.false)

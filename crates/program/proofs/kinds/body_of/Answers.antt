@@ -4,7 +4,7 @@ use mathlib.Core.Path.{refl}
 use Rattle.nodes.specs.Nodes.{body_length}
 use Rattle.program.specs.Kinds.{body_of, rule_of}
 use Rattle.program.specs.declared.kinds.Rule.TheVariants.{OneName, Parts}
-use Rattle.program.specs.declared.kinds.Body.TheVariants.{Node, Unknown}
+use Rattle.std.proofs.Common.{Some, None}
 use Rattle.nodes.specs.RangeLaws.{above}
 use Rattle.program.proofs.KindLaws.{key, arm, past}
 use Rattle.program.proofs.kinds.body_of.Goals as goal
@@ -47,15 +47,15 @@ returns-in-13 c = key 13 c.in-13.is
 
 pub returns-in-6-to-7 : goal.returns-in-6-to-7
 unfolding body_of body_length rule_of
-returns-in-6-to-7 c = arm (Node 1 OneName) 6 2 (refl, (refl, tt)) (above 5 (above 4 (above 3 (above 2 (above 1 c.in-6-to-7.if-kind-lt1-own.false c.in-6-to-7.in_default-own.rest.0.0.0.0.0.0.0.0.1) c.in-6-to-7.in_default-own.rest.0.0.0.0.0.0.0.1) c.in-6-to-7.in_default-own.rest.0.0.0.0.0.0.1) c.in-6-to-7.in_default-own.rest.0.0.0.0.0.1) c.in-6-to-7.in_default-own.rest.0.0.0.0.1) c.in-6-to-7.if-kind-lt8-own.true
+returns-in-6-to-7 c = arm (Some (1, OneName)) 6 2 (refl, (refl, tt)) (above 5 (above 4 (above 3 (above 2 (above 1 c.in-6-to-7.if-kind-lt1-own.false c.in-6-to-7.in_default-own.rest.0.0.0.0.0.0.0.0.1) c.in-6-to-7.in_default-own.rest.0.0.0.0.0.0.0.1) c.in-6-to-7.in_default-own.rest.0.0.0.0.0.0.1) c.in-6-to-7.in_default-own.rest.0.0.0.0.0.1) c.in-6-to-7.in_default-own.rest.0.0.0.0.1) c.in-6-to-7.if-kind-lt8-own.true
 
 pub returns-in-10-to-11 : goal.returns-in-10-to-11
 unfolding body_of body_length rule_of
-returns-in-10-to-11 c = arm (Node 5 Parts) 10 2 (refl, (refl, tt)) (above 9 (above 8 c.in-10-to-11.if-kind-lt8-own.false c.in-10-to-11.in_default-own.rest.0.0.0.1) c.in-10-to-11.in_default-own.rest.0.0.1) c.in-10-to-11.if-kind-lt12-own.true
+returns-in-10-to-11 c = arm (Some (5, Parts)) 10 2 (refl, (refl, tt)) (above 9 (above 8 c.in-10-to-11.if-kind-lt8-own.false c.in-10-to-11.in_default-own.rest.0.0.0.1) c.in-10-to-11.in_default-own.rest.0.0.1) c.in-10-to-11.if-kind-lt12-own.true
 
 pub returns-in_default : goal.returns-in_default
 unfolding body_of body_length rule_of
-returns-in_default c = arm Unknown 0 1 (refl, tt) zero-le c.in_default.if-kind-lt1-own.true
+returns-in_default c = arm None 0 1 (refl, tt) zero-le c.in_default.if-kind-lt1-own.true
 
 pub returns-in_default-2 : goal.returns-in_default-2
 returns-in_default-2 c = past (above 13 (above 12 c.in_default.if-kind-lt12-own.false c.in_default.in_default-own.rest.0.1) c.in_default.in_default-own.rest.1)

@@ -4,8 +4,8 @@ use Rattle.program.specs.Answer.{told}
 use Rattle.rehearsal.specs.Both.{parties_of}
 use Rattle.rehearsal.proofs.both.parties_of.Goals as goal
 
-pub returns-in-Good : goal.returns-in-Good
-returns-in-Good c = ap parties_of (sym (ap told c.in-Good.is) ∙ c.check.ensures)
+pub returns-in-Ok : goal.returns-in-Ok
+returns-in-Ok c = ap parties_of (sym (ap told c.in-Ok.is) ∙ c.check.ensures)
 
-pub returns-in-Bad : goal.returns-in-Bad
-returns-in-Bad c = ap parties_of (sym (ap told c.in-Bad.is) ∙ c.check.ensures)
+pub returns-in-Err : goal.returns-in-Err
+returns-in-Err c = ap parties_of (sym (ap told c.in-Err.is) ∙ c.check.ensures)

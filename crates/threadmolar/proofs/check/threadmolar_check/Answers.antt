@@ -7,12 +7,12 @@ use Rattle.threadmolar.proofs.AnswerLaws.{check_fits}
 use Rattle.threadmolar.proofs.check.threadmolar_check.Goals as goal
 
 pub overflow_cast-place : goal.overflow_cast-place
-overflow_cast-place c = omega (arith, check_fits _ _ _ (ap told (sym c.in-Bad.is) ∙ c.check.ensures))
+overflow_cast-place c = omega (arith, check_fits _ _ _ (ap told (sym c.in-Err.is) ∙ c.check.ensures))
 
-pub returns-in-Bad : goal.returns-in-Bad
+pub returns-in-Err : goal.returns-in-Err
 unfolding check_number parties_left nodes_left
-returns-in-Bad c = rw (← c.check.ensures, c.in-Bad.is) (record { number = c.numbered.ensures; parties = refl; nodes = refl })
+returns-in-Err c = rw (← c.check.ensures, c.in-Err.is) (record { number = c.numbered.ensures; parties = refl; nodes = refl })
 
-pub returns-in-Good : goal.returns-in-Good
+pub returns-in-Ok : goal.returns-in-Ok
 unfolding check_number parties_left nodes_left
-returns-in-Good c = rw (← c.check.ensures, c.in-Good.is) (record { number = refl; parties = refl; nodes = refl })
+returns-in-Ok c = rw (← c.check.ensures, c.in-Ok.is) (record { number = refl; parties = refl; nodes = refl })
