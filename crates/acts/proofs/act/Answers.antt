@@ -14,10 +14,10 @@ returns-in-Refuse c = let a = c.args in acts_refuse a.input a.t a.p a.used a.byt
 pub returns-in-Goes : goal.returns-in-Goes
 returns-in-Goes c = absurd (rw c.in-Goes.is at c.requires.2)
 
-pub returns-in-Input : goal.returns-in-Input
-returns-in-Input c = let a = c.args in
-    acts_reads a.input a.t a.p a.used a.bytes.now a.area.now c.settle.result _ _ a.effect c.in-Input.i c.in-Reads.is c.in-Input.is
-    (rw (read32 c.in-Input.i (record { sfits = omega arith })) at c.settle.ensures)
+pub returns-in-Some : goal.returns-in-Some
+returns-in-Some c = let a = c.args in
+    acts_reads a.input a.t a.p a.used a.bytes.now a.area.now c.settle.result _ _ a.effect c.in-Some.i c.in-Reads.is c.in-Some.is
+    (rw (read32 c.in-Some.i (record { sfits = omega arith })) at c.settle.ensures)
 
 pub returns-in-Writes : goal.returns-in-Writes
 returns-in-Writes c = let a = c.args in
