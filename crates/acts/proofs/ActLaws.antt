@@ -14,7 +14,6 @@ use lib.ListN.{length, length-append}
 use lib.Seq.{length-sets}
 use Rattle.stretches.proofs.StretchLaws.{sets_append}
 use Rattle.limits.specs.declared.Party.{Party}
-use Rattle.values.specs.Values.{slice}
 use Rattle.values.specs.declared.value.Value.{Value}
 use Rattle.values.specs.declared.value.Value.TheVariants.{Clear}
 use Rattle.records.specs.Events.{event_bytes, written, finished, has_room, held_back}
@@ -23,16 +22,14 @@ use Rattle.records.specs.AppendLaws.{Took, Kept, took, kept}
 use Rattle.records.specs.declared.events.Event.{Event}
 use Rattle.records.specs.declared.events.Event.TheVariants as Event'
 use Rattle.refusals.specs.Numbers.{no_input, no_room, too_deep}
-use Rattle.rules.specs.Books.{Book, used, handed, event_of, event_for, room_for, add, note}
+use Rattle.rules.specs.Books.{Book, used, event_for, room_for, add, note}
 use Rattle.rules.specs.Moves.{move}
 use Rattle.rules.specs.Single.{Setting}
 use Rattle.rules.specs.Joint.{Site, over, finish, stop, land, settle, read_own}
 use Rattle.rules.specs.declared.effects.Move.{Move}
 use Rattle.rules.specs.declared.effects.Move.TheVariants.{Hand}
-use Rattle.rules.specs.declared.effects.Meeting.{Meeting}
-use Rattle.rules.specs.declared.effects.Offer.{Offer}
 use Rattle.rules.specs.declared.effects.Effect.{Effect}
-use Rattle.rules.specs.declared.effects.Effect.TheVariants.{Refuse, Goes, Reads, Writes, Meets}
+use Rattle.rules.specs.declared.effects.Effect.TheVariants.{Refuse, Goes, Reads, Writes}
 use Rattle.invariants.specs.Room.{Fits}
 use Rattle.invariants.proofs.BookLaws.{added, used_added}
 use Rattle.invariants.proofs.RoomLaws.{last_fits}
@@ -167,12 +164,6 @@ module _ (ev : Event) (mv : Move) (t : Stand) (P : ℕ) (u : ℕ) (xs w : List �
         table = m.table;
       }
 
--- a part in a meeting
-pub joins : (mt : Meeting) (i : ℤ) (t : Stand) (P : Party) (u : ℕ) (xs w : List ℕ) (u' : ℕ) (xs' w' : List ℕ) (ev : Event) (whole own : Value) → ev ≡ event_of mt i
-    → whole ≡ handed mt i → own ≡ slice P.index whole → Settles ev (Hand own) t P u xs w u' xs' w'
-    → Settles (event_of mt i) (Hand (slice P.index (handed mt i))) t P u xs w u' xs' w'
-joins mt i t P u xs w u' xs' w' ev whole own e h s k = rw (← e, ← h, ← s) k
-
 -- ---- each effect, done by itself
 module _ (input : Option ℤ) (t : Stand) (P : Party) (u : ℕ) (xs w : List ℕ) (u' : ℕ) (xs' w' : List ℕ) where
   pub acts_refuse : (effect : Effect) (r : ℕ) → effect ≡ Refuse r → Takes (stop r t.node) u xs w u' xs' w' → Acts.Acts effect input t P u xs w u' xs' w'
@@ -209,6 +200,3 @@ module _ (input : Option ℤ) (t : Stand) (P : Party) (u : ℕ) (xs w : List ℕ
           → Acts.Took b (read_own S P.index (control_of t w) b is) u xs u' xs' w'
       go S b [] h k = absurd (let z : ◌≡◌ {A = ℕ} 0 1 = cc in omega arith)
       go S b (j ∷ is) h k = let same : i ≡ j = cc in rw (← same) k
-
-  pub acts_never : (effect : Effect) (mt : Meeting) (o : Offer) → effect ≡ Meets mt o → Acts.Acts effect input t P u xs w u xs w
-  acts_never effect mt o q = rw q (record { acts = λ S R b o h j n. absurd n; table = refl })
