@@ -6,6 +6,7 @@ use mathlib.Core.Option.{some}
 use Prim.Native.Nat.{ℕ, ◌+◌}
 use native.Mathlib.Nat.{add-zero}
 use native.Mathlib.Omega.{arith}
+use Rattle.std.specs.Prelude.{Option, Some, None}
 use borrow.Author.Tests.{le-leb}
 use lib.Dec.{leb}
 use lib.IntN.{ℤ, pos}
@@ -13,7 +14,6 @@ use lib.ListN.{length, length-append}
 use lib.Seq.{length-sets}
 use Rattle.stretches.proofs.StretchLaws.{sets_append}
 use Rattle.limits.specs.declared.Party.{Party}
-use Rattle.values.specs.Values.{slice}
 use Rattle.values.specs.declared.value.Value.{Value}
 use Rattle.values.specs.declared.value.Value.TheVariants.{Clear}
 use Rattle.records.specs.Events.{event_bytes, written, finished, has_room, held_back}
@@ -21,24 +21,19 @@ use Rattle.records.specs.Append.{Appends, Closes}
 use Rattle.records.specs.AppendLaws.{Took, Kept, took, kept}
 use Rattle.records.specs.declared.events.Event.{Event}
 use Rattle.records.specs.declared.events.Event.TheVariants as Event'
-use Rattle.records.specs.declared.events.Appended.TheVariants.{To, NoRoom}
 use Rattle.refusals.specs.Numbers.{no_input, no_room, too_deep}
-use Rattle.rules.specs.Books.{Book, used, handed, event_of, event_for, room_for, add, note}
+use Rattle.rules.specs.Books.{Book, used, event_for, room_for, add, note}
 use Rattle.rules.specs.Moves.{move}
 use Rattle.rules.specs.Single.{Setting}
 use Rattle.rules.specs.Joint.{Site, over, finish, stop, land, settle, read_own}
 use Rattle.rules.specs.declared.effects.Move.{Move}
 use Rattle.rules.specs.declared.effects.Move.TheVariants.{Hand}
-use Rattle.rules.specs.declared.effects.Meeting.{Meeting}
-use Rattle.rules.specs.declared.effects.Offer.{Offer}
 use Rattle.rules.specs.declared.effects.Effect.{Effect}
-use Rattle.rules.specs.declared.effects.Effect.TheVariants.{Refuse, Goes, Reads, Writes, Meets}
+use Rattle.rules.specs.declared.effects.Effect.TheVariants.{Refuse, Goes, Reads, Writes}
 use Rattle.invariants.specs.Room.{Fits}
 use Rattle.invariants.proofs.BookLaws.{added, used_added}
 use Rattle.invariants.proofs.RoomLaws.{last_fits}
 use Rattle.inputs.specs.Inputs.{head_of}
-use Rattle.inputs.specs.declared.Taken.{Taken}
-use Rattle.inputs.specs.declared.Taken.TheVariants.{Input, UsedUp}
 use Rattle.area.specs.Levels.{control_of, next_of}
 use Rattle.area.specs.Levels as Levels
 use Rattle.seats.specs.Seats.{seat_at, seated, site_of, Saves}
@@ -141,7 +136,7 @@ then_took e b s u next xs xs1 u' xs' w' k n =
 
 module _ (ev : Event) (mv : Move) (t : Stand) (P : ℕ) (u : ℕ) (xs w : List ℕ) (S : Setting) (R : S.room ≡ length xs) (E : Event) (q : E ≡ event_for P ev) where
   -- the event has room
-  pub notes : (next : ℕ) (xs1 : List ℕ) (u' : ℕ) (xs' w' : List ℕ) → Appends E u xs (To next) xs1
+  pub notes : (next : ℕ) (xs1 : List ℕ) (u' : ℕ) (xs' w' : List ℕ) → Appends E u xs (Some next) xs1
       → Takes (land t.node (move mv (control_of t w))) next xs1 w u' xs' w' → Takes (λ b. settle S P (control_of t w) b (some ev) mv) u xs w u' xs' w'
   unfolding settle room_for note control_of
   notes next xs1 u' xs' w' a m =
@@ -156,7 +151,7 @@ module _ (ev : Event) (mv : Move) (t : Stand) (P : ℕ) (u : ℕ) (xs w : List �
       }
 
   -- it has none
-  pub lacks : (u' : ℕ) (xs1 xs' w' : List ℕ) → Appends E u xs NoRoom xs1 → Takes (stop no_room t.node) u xs1 w u' xs' w'
+  pub lacks : (u' : ℕ) (xs1 xs' w' : List ℕ) → Appends E u xs None xs1 → Takes (stop no_room t.node) u xs1 w u' xs' w'
       → Takes (λ b. settle S P (control_of t w) b (some ev) mv) u xs w u' xs' w'
   unfolding settle room_for control_of
   lacks u' xs1 xs' w' a m =
@@ -169,14 +164,8 @@ module _ (ev : Event) (mv : Move) (t : Stand) (P : ℕ) (u : ℕ) (xs w : List �
         table = m.table;
       }
 
--- a part in a meeting
-pub joins : (mt : Meeting) (i : ℤ) (t : Stand) (P : Party) (u : ℕ) (xs w : List ℕ) (u' : ℕ) (xs' w' : List ℕ) (ev : Event) (whole own : Value) → ev ≡ event_of mt i
-    → whole ≡ handed mt i → own ≡ slice P.index whole → Settles ev (Hand own) t P u xs w u' xs' w'
-    → Settles (event_of mt i) (Hand (slice P.index (handed mt i))) t P u xs w u' xs' w'
-joins mt i t P u xs w u' xs' w' ev whole own e h s k = rw (← e, ← h, ← s) k
-
 -- ---- each effect, done by itself
-module _ (input : Taken) (t : Stand) (P : Party) (u : ℕ) (xs w : List ℕ) (u' : ℕ) (xs' w' : List ℕ) where
+module _ (input : Option ℤ) (t : Stand) (P : Party) (u : ℕ) (xs w : List ℕ) (u' : ℕ) (xs' w' : List ℕ) where
   pub acts_refuse : (effect : Effect) (r : ℕ) → effect ≡ Refuse r → Takes (stop r t.node) u xs w u' xs' w' → Acts.Acts effect input t P u xs w u' xs' w'
   unfolding acted control_of
   acts_refuse effect r q s = rw q (record { acts = λ S R b o h i n. s.took b o h; table = s.table })
@@ -191,26 +180,23 @@ module _ (input : Taken) (t : Stand) (P : Party) (u : ℕ) (xs w : List ℕ) (u'
   unfolding acted control_of
   acts_writes effect i q s = rw q (record { acts = λ S R b o h j n. (s.settles S R).took b o h; table = s.table })
 
-  pub acts_unread : (effect : Effect) → effect ≡ Reads → input ≡ UsedUp → Takes (stop no_input t.node) u xs w u' xs' w' → Acts.Acts effect input t P u xs w u' xs' w'
+  pub acts_unread : (effect : Effect) → effect ≡ Reads → input ≡ None → Takes (stop no_input t.node) u xs w u' xs' w' → Acts.Acts effect input t P u xs w u' xs' w'
   unfolding acted control_of read_own
   acts_unread effect q e s =
       rw q (record { acts = λ S R b o h j n. go S b b.inputs (sym e ∙ j) (s.took b o h); table = s.table })
     where
-      go : (S : Setting) (b : Book) (is : List ℤ) → UsedUp ≡ head_of is → Acts.Took b (stop no_input t.node b) u xs u' xs' w'
+      go : (S : Setting) (b : Book) (is : List ℤ) → None ≡ head_of is → Acts.Took b (stop no_input t.node b) u xs u' xs' w'
           → Acts.Took b (read_own S P.index (control_of t w) b is) u xs u' xs' w'
       go S b [] h k = k
       go S b (i ∷ is) h k = absurd (let z : ◌≡◌ {A = ℕ} 0 1 = cc in omega arith)
 
-  pub acts_reads : (effect : Effect) (i : ℤ) → effect ≡ Reads → input ≡ Input i → Settles (Event'.Read i) (Hand (Clear i t.mode)) t P u xs w u' xs' w'
+  pub acts_reads : (effect : Effect) (i : ℤ) → effect ≡ Reads → input ≡ Some i → Settles (Event'.Read i) (Hand (Clear i t.mode)) t P u xs w u' xs' w'
       → Acts.Acts effect input t P u xs w u' xs' w'
   unfolding acted control_of read_own
   acts_reads effect i q e s =
       rw q (record { acts = λ S R b o h j n. go S b b.inputs (sym e ∙ j) ((s.settles S R).took b o h); table = s.table })
     where
-      go : (S : Setting) (b : Book) (is : List ℤ) → Input i ≡ head_of is → Acts.Took b (settle S P.index (control_of t w) b (some (Event'.Read i)) (Hand (Clear i t.mode))) u xs u' xs' w'
+      go : (S : Setting) (b : Book) (is : List ℤ) → Some i ≡ head_of is → Acts.Took b (settle S P.index (control_of t w) b (some (Event'.Read i)) (Hand (Clear i t.mode))) u xs u' xs' w'
           → Acts.Took b (read_own S P.index (control_of t w) b is) u xs u' xs' w'
       go S b [] h k = absurd (let z : ◌≡◌ {A = ℕ} 0 1 = cc in omega arith)
       go S b (j ∷ is) h k = let same : i ≡ j = cc in rw (← same) k
-
-  pub acts_never : (effect : Effect) (mt : Meeting) (o : Offer) → effect ≡ Meets mt o → Acts.Acts effect input t P u xs w u xs w
-  acts_never effect mt o q = rw q (record { acts = λ S R b o h j n. absurd n; table = refl })

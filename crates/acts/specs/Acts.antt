@@ -1,5 +1,5 @@
 -- What a site's act leaves of its own record, of xs with u bytes used, and of its own area w.
-use Rattle.std.specs.Prelude.{◌≡◌, ℕ, ◌+◌, ◌≤◌, List, ◌++◌, length, take}
+use Rattle.std.specs.Prelude.{◌≡◌, ℕ, ◌+◌, ◌≤◌, List, ◌++◌, ℤ, length, take, Option}
 use Rattle.std.proofs.Math.Option.{some}
 use Rattle.std.proofs.lemmas.List.Edits.{sets}
 use Rattle.limits.specs.declared.Party.{Party}
@@ -12,7 +12,6 @@ use Rattle.rules.specs.declared.effects.Move.{Move}
 use Rattle.rules.specs.declared.effects.Effect.{Effect}
 use Rattle.invariants.specs.Room.{Fits}
 use Rattle.inputs.specs.Inputs.{head_of}
-use Rattle.inputs.specs.declared.Taken.{Taken}
 use Rattle.area.specs.Levels.{table_size, control_of, next_of, DeepEnough}
 use Rattle.seats.specs.Seats.{site_of}
 use Rattle.area.specs.declared.stand.Stand.{Stand}
@@ -44,7 +43,7 @@ pub record Settles (ev : Event) (mv : Move) (t : Stand) (P : Party) (u : ℕ) (x
   pub table : take table_size w' ≡ take table_size w
 
 -- the site does what its own rule asks, its next input being at hand
-pub record Acts (effect : Effect) (input : Taken) (t : Stand) (P : Party) (u : ℕ) (xs w : List ℕ) (u' : ℕ) (xs' w' : List ℕ) : Type 0 where
+pub record Acts (effect : Effect) (input : Option ℤ) (t : Stand) (P : Party) (u : ℕ) (xs w : List ℕ) (u' : ℕ) (xs' w' : List ℕ) : Type 0 where
   pub acts : (S : Setting) → S.room ≡ length xs → (b : Book) → used b ≡ u → u + held_back ≤ length xs → input ≡ head_of b.inputs → Alone (Own.Acts effect)
       → Took b (acted S P.index (control_of t w) b effect) u xs u' xs' w'
   pub table : take table_size w' ≡ take table_size w

@@ -13,9 +13,8 @@ ghost use Rattle.advance.specs.Advances.{Asked};
 ghost use Rattle.acts.specs.Acts.{Takes, Lands, Settles, Acts};
 
 use area::stand::{Next, Stand};
-use inputs::Taken;
 use limits::Party;
-use records::events::{Appended, Event};
+use records::events::Event;
 use rules::effects::{Effect, Meeting, Move};
 use seats::Seat;
 use values::value::Value;
@@ -74,7 +73,7 @@ fn settle(
     ensures { Settles ev (Move.Hand v) t p used bytes.old area.old result bytes.new area.new }
 {
     let node = t.node;
-    let Appended::To(next) = ledger::entries::event_for(p, ev).append(bytes, used) else {
+    let Some(next) = ledger::entries::event_for(p, ev).append(bytes, used) else {
         return stop(refusals::NO_ROOM, node, used, bytes, area);
     };
     hand_back(v, t, next, bytes, area)
@@ -98,12 +97,12 @@ pub fn join(
     settle(ev, own, t, p, used, bytes, area)
 }
 
-// The effect of the site's own rule, done; `input` is its next input. A meeting is nothing that a site does by itself, and of a move nothing is left to do.
+// The effect of the site's own rule, done; `input` is its next input, if any is left. A meeting is nothing that a site does by itself, and of a move nothing is left to do.
 pub fn act(
     effect: Effect,
     t: Stand,
     p: Party,
-    input: Taken,
+    input: Option<i32>,
     used: usize,
     bytes: &mut [u8],
     area: &mut [u8],
@@ -117,7 +116,7 @@ pub fn act(
         Effect::Refuse(refusal) => stop(refusal, node, used, bytes, area),
         Effect::Goes(_) => used,
         Effect::Reads => {
-            let Taken::Input(i) = input else {
+            let Some(i) = input else {
                 return stop(refusals::NO_INPUT, node, used, bytes, area);
             };
             settle(Event::Read(i), Value::Clear(i, m), t, p, used, bytes, area)

@@ -7,8 +7,8 @@ use native.Mathlib.Decide.{dec_lt, ℕ_discrete}
 use native.Mathlib.Omega.{arith}
 use borrow.Author.Tests.{lt-ltb, le-ltb}
 use types.Run.{miss}
+use Rattle.std.specs.Prelude.{Option, Some, None}
 use lib.Dec.{ltb}
-use lib.IntN.{ℤ}
 use lib.ListN.{length, get_or, set}
 use Rattle.parties.specs.Sets.{member, meet, all}
 use Rattle.parties.specs.SetLaws.{below_member}
@@ -22,7 +22,6 @@ use Rattle.area.specs.Rows.{row_size, row, area_of, back}
 use Rattle.rules.specs.Single.{Setting}
 use Rattle.rules.specs.Joint.{Site, Sites, running, stop, parts, put_all, book_of}
 use Rattle.rules.specs.declared.effects.Move.TheVariants.{Hand}
-use Rattle.rules.specs.declared.effects.Meeting.{Meeting}
 use Rattle.invariants.specs.Room.{Fits}
 use Rattle.area.specs.Levels.{control_of}
 use Rattle.seats.specs.Seats.{seat_at, seated, site_of}
@@ -32,32 +31,31 @@ use Rattle.seats.specs.declared.Seat.TheVariants.{Running, Finished, Stopped}
 use Rattle.acts.specs.Acts.{Took, Takes, Settles}
 use Rattle.meets.specs.Places.{setting_of, Given, Stands}
 use Rattle.concludes.specs.Concludes.{concluding, TakesPart, ConcludesOne, ConcludesAll}
-use Rattle.concludes.specs.declared.Outcome.{Outcome}
-use Rattle.concludes.specs.declared.Outcome.TheVariants.{Joins, Parts}
+use Rattle.concludes.specs.declared.Joined.{Joined}
 use Rattle.area.proofs.RowLaws.{row_length}
 use Rattle.concludes.proofs.StandLaws.{NotRunning, stands_same, stands_length, stands_long, stands_changed}
 
 -- ---- a member's part, on its own record and area
-module _ (outcome : Outcome) (t : Stand) (P : Party) (u : ℕ) (xs w : List ℕ) (u' : ℕ) (xs' w' : List ℕ) where
-  pub parts_with : outcome ≡ Parts → Takes (stop disagreement t.node) u xs w u' xs' w' → TakesPart outcome t P u xs w u' xs' w'
+module _ (outcome : Option Joined) (t : Stand) (P : Party) (u : ℕ) (xs w : List ℕ) (u' : ℕ) (xs' w' : List ℕ) where
+  pub parts_with : outcome ≡ None → Takes (stop disagreement t.node) u xs w u' xs' w' → TakesPart outcome t P u xs w u' xs' w'
   unfolding parts control_of
   parts_with q s = rw q (record { part = λ p b o h. s.took b o h; table = s.table })
 
-  pub joins_in : (mt : Meeting) (i : ℤ) → outcome ≡ Joins mt i → Settles (event_of mt i) (Hand (slice P.index (handed mt i))) t P u xs w u' xs' w'
+  pub joins_in : (j : Joined) → outcome ≡ Some j → Settles (event_of j.meeting j.number) (Hand (slice P.index (handed j.meeting j.number))) t P u xs w u' xs' w'
       → TakesPart outcome t P u xs w u' xs' w'
-  joins_in mt i q s = rw q (record { part = λ p b e h. (s.settles (setting_of p (length xs)) refl).took b e h; table = s.table })
+  joins_in j q s = rw q (record { part = λ p b e h. (s.settles (setting_of p (length xs)) refl).took b e h; table = s.table })
 
 -- ---- one site
 -- who runs no more comes to nothing else
-over_stays : (outcome : Outcome) (S : Setting) (P : ℕ) (seat : Seat) (w : List ℕ) (b : Book) → NotRunning seat → concluding outcome S P (seated seat w b) ≡ seated seat w b
+over_stays : (outcome : Option Joined) (S : Setting) (P : ℕ) (seat : Seat) (w : List ℕ) (b : Book) → NotRunning seat → concluding outcome S P (seated seat w b) ≡ seated seat w b
 unfolding parts
 over_stays outcome S P (Running t) w b h = absurd (miss (1 ∷ 2 ∷ []) 0 tt h)
-over_stays (Joins mt i) S P Finished w b h = refl
-over_stays Parts S P Finished w b h = refl
-over_stays (Joins mt i) S P Stopped w b h = refl
-over_stays Parts S P Stopped w b h = refl
+over_stays (Some j) S P Finished w b h = refl
+over_stays None S P Finished w b h = refl
+over_stays (Some j) S P Stopped w b h = refl
+over_stays None S P Stopped w b h = refl
 
-module _ (outcome : Outcome) (P room : ℕ) (bytes lengths work : List ℕ) (seat : Seat) (sits : seat ≡ seat_at (area_of P work)) where
+module _ (outcome : Option Joined) (P room : ℕ) (bytes lengths work : List ℕ) (seat : Seat) (sits : seat ≡ seat_at (area_of P work)) where
   pub member_over : NotRunning seat → ConcludesOne outcome P room bytes lengths work bytes lengths work
   unfolding site_of
   member_over h =
@@ -112,10 +110,10 @@ below_other k m f J Q d =
     ]
 
 -- the bytes hold the sites once those of s below k have come to their conclusion
-pub record Going (outcome : Outcome) (s : PartySet) (n room : ℕ) (bytes₀ lengths₀ work₀ bytes lengths work : List ℕ) (k : ℕ) : Type 0 where
+pub record Going (outcome : Option Joined) (s : PartySet) (n room : ℕ) (bytes₀ lengths₀ work₀ bytes lengths work : List ℕ) (k : ℕ) : Type 0 where
   pub so : (bs : List ℕ) (nodes : ℕ) (G : Given bs nodes room n) (J : Sites) → Stands G J bytes₀ lengths₀ work₀ → Stands G (below k s (concluding outcome (setting_of G.program room)) J) bytes lengths work
 
-module _ {outcome : Outcome} {s : PartySet} {n room : ℕ} {bytes₀ lengths₀ work₀ : List ℕ} where
+module _ {outcome : Option Joined} {s : PartySet} {n room : ℕ} {bytes₀ lengths₀ work₀ : List ℕ} where
   pub going_none : Going outcome s n room bytes₀ lengths₀ work₀ bytes₀ lengths₀ work₀ 0
   unfolding below
   going_none =

@@ -12,17 +12,16 @@ use parties::sets::PartySet;
 use rules::effects::Meeting;
 use seats::Seat;
 
+// The meeting that all members join, and the number that it is about.
 #[derive(Clone, Copy)]
-pub enum Outcome {
-    // the meeting, and the number that it was about
-    Joins(Meeting, i32),
-    // the members disagree
-    Parts,
+pub struct Joined {
+    pub meeting: Meeting,
+    pub number: i32,
 }
 
-// The part of site p, which is at the meeting, on its own record and area; how many bytes of the record are then used.
+// The part of site p, which is at the meeting, on its own record and area; how many bytes of the record are then used. Without an outcome the members disagree.
 fn take_part(
-    outcome: Outcome,
+    outcome: Option<Joined>,
     t: Stand,
     p: Party,
     used: usize,
@@ -34,14 +33,14 @@ fn take_part(
 {
     let node = t.node;
     match outcome {
-        Outcome::Joins(mt, number) => acts::join(mt, number, t, p, used, bytes, area),
-        Outcome::Parts => acts::stop(refusals::DISAGREEMENT, node, used, bytes, area),
+        Some(joined) => acts::join(joined.meeting, joined.number, t, p, used, bytes, area),
+        None => acts::stop(refusals::DISAGREEMENT, node, used, bytes, area),
     }
 }
 
 // The member p does its part, if it runs.
 fn conclude_one(
-    outcome: Outcome,
+    outcome: Option<Joined>,
     p: u8,
     room: usize,
     bytes: &mut [u8],
@@ -73,7 +72,7 @@ fn conclude_one(
 
 // Each member of m does its part.
 pub fn conclude(
-    outcome: Outcome,
+    outcome: Option<Joined>,
     m: PartySet,
     n: u8,
     room: usize,

@@ -1,20 +1,21 @@
 -- The parties' inputs in the lent list: where they start and end, which one is next, and what is left once one is taken. Assumes nothing.
 use mathlib.Core.Path.{◌≡◌, refl, sym, ap, ◌∙◌}
-use mathlib.Core.Bool.{Bool, true, false, ◌&&◌, and-false}
+use mathlib.Core.Bool.{Bool, true, false, ◌&&◌}
 use mathlib.Core.List.{List, [], ◌∷◌}
 use Prim.Native.Nat.{ℕ, zero, suc, ◌+◌, ◌-◌, ◌≤◌, ◌<◌}
 use native.Mathlib.Numerals.{add-one}
 use native.Mathlib.Decide.{dec_lt}
 use native.Mathlib.Omega.{arith}
+use Rattle.std.specs.Prelude.{Some, None}
+use Rattle.std.specs.List.{slice_get}
 use lib.Dec.{eqb}
 use lib.IntN.{ℤ}
-use lib.ListN.{length, get_or, take, drop, set, length-set, drop_of_length-le, get_or-eq_default}
-use lib.Seq.{take-nil, take-length, drop-cons, drop-drop, get_or-set_same, get_or-set_other}
-use borrow.Author.Tests.{eqb-true, eqb-false, eq-eqb, ne_eqb}
+use lib.ListN.{length, get_or, take, drop, set, length-set, get_or-eq_default}
+use lib.Seq.{take-nil, drop-nil, drop-drop, get_or-set_same, get_or-set_other}
+use borrow.Author.Tests.{eqb-true, eqb-false}
 use Rattle.rules.specs.Books.{Books, opening}
 use Rattle.rules.specs.Lent.{Lent, sum, inputs_of, counts_fit}
 use Rattle.inputs.specs.Inputs.{Divided, InputsHold, head_of}
-use Rattle.inputs.specs.declared.Taken.TheVariants.{Input, UsedUp}
 
 -- ---- sums of the first counts
 sum_take_step : (cs : List ℕ) (k : ℕ) → k < length cs → sum (take (suc k) cs) ≡ sum (take k cs) + get_or cs k 0
@@ -35,25 +36,6 @@ sum_take_le (c ∷ cs) (suc k) = omega (arith, sum_take_le cs k)
 pub sum_take_none : (cs : List ℕ) → sum (take 0 cs) ≡ 0
 unfolding sum
 sum_take_none cs = refl
-
--- ---- the counts fit
-module _ (cs : List ℕ) (n m : ℕ) where
-  pub fit_length : (length cs ≡ n → ⊥) → false ≡ (eqb (length cs) n && eqb (sum cs) m)
-  fit_length d = rw (ne_eqb (length cs) n d)
-
-  pub fit_lack : (k left : ℕ) → k < length cs → sum (take k cs) + left ≡ m → left < get_or cs k 0 → false ≡ (eqb (length cs) n && eqb (sum cs) m)
-  fit_lack k left h e l =
-      rw (ne_eqb (sum cs) m (λ q. omega (arith, sum_take_suc cs k h, sum_take_le cs (k + 1)))) (sym (and-false (eqb (length cs) n)))
-
-  pub fit_all : (left : ℕ) → length cs ≡ n → sum (take (length cs) cs) + left ≡ m → eqb left 0 ≡ (eqb (length cs) n && eqb (sum cs) m)
-  fit_all left l e = rw (eq-eqb (length cs) n l) (go (eqb left 0) refl)
-    where
-      whole : sum cs + left ≡ m
-      whole = rw take-length at e
-
-      go : (t : Bool) → eqb left 0 ≡ t → eqb left 0 ≡ eqb (sum cs) m
-      go true h = h ∙ sym (eq-eqb (sum cs) m (omega (arith, whole, eqb-true left 0 h)))
-      go false h = h ∙ sym (ne_eqb (sum cs) m (λ q. eqb-false left 0 h (omega (arith, whole))))
 
 -- `counts_fit` of what is lent
 pub counts_fit_is : (n : ℕ) (L : Lent) → (eqb (length L.counts) n && eqb (sum L.counts) (length L.inputs)) ≡ counts_fit n L
@@ -116,31 +98,18 @@ module _ (counts at₀ end₀ : List ℕ) where
             let p : P ≡ k → ⊥ = eqb-false P k q in
             get_or-set_other end k P (s + get_or counts k 0) 0 p ∙ d.ends P (omega arith)
 
-pub divide_all : (counts at₀ end₀ : List ℕ) (s : ℕ) (at end : List ℕ) → Dividing counts at₀ end₀ (length counts) s at end → Divided counts at₀ end₀ at end
-divide_all counts at₀ end₀ s at end d = record { starts = d.starts; ends = d.ends; rest = d.rest }
-
 -- ---- the input that is next
-first_is : (m : ℕ) (i : ℤ) (is : List ℤ) → 0 < m → Input i ≡ head_of (take m (i ∷ is))
-first_is zero i is p = absurd (omega arith)
-first_is (suc m) i is p = refl
+pub next_is : (is : List ℤ) (i m : ℕ) → 0 < m → head_of (take m (drop i is)) ≡ slice_get is i
+next_is is i zero h = absurd (omega arith)
+next_is [] i (suc m) h = rw (drop-nil)
+next_is (x ∷ is) zero (suc m) h = refl
+next_is (x ∷ is) (suc i) (suc m) h = next_is is i (suc m) h
 
-module _ (is : List ℤ) (i e : ℕ) where
-  pub next_is : (z : ℤ) → i < e → i < length is → Input (get_or is i z) ≡ head_of (take (e - i) (drop i is))
-  next_is z l h = rw (drop-cons is i z h) (first_is (e - i) (get_or is i z) (drop (suc i) is) (omega arith))
-
-  pub next_none : e ≤ i → UsedUp ≡ head_of (take (e - i) (drop i is))
-  next_none l =
-      let z : e - i ≡ 0 = omega arith in
-      rw z
-
-  pub next_past : length is ≤ i → UsedUp ≡ head_of (take (e - i) (drop i is))
-  next_past l = rw (drop_of_length-le is l, take-nil (e - i))
-
-pub head_none : (xs : List ℤ) → head_of xs ≡ UsedUp → xs ≡ []
+pub head_none : (xs : List ℤ) → head_of xs ≡ None → xs ≡ []
 head_none [] h = refl
 head_none (i ∷ is) h = absurd (let z : ◌≡◌ {A = ℕ} 0 1 = cc in omega arith)
 
-pub head_some : (xs : List ℤ) (i : ℤ) → head_of xs ≡ Input i → xs ≡ i ∷ drop 1 xs
+pub head_some : (xs : List ℤ) (i : ℤ) → head_of xs ≡ Some i → xs ≡ i ∷ drop 1 xs
 head_some [] i h = absurd (let z : ◌≡◌ {A = ℕ} 0 1 = cc in omega arith)
 head_some (j ∷ is) i h = cc
 

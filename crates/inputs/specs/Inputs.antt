@@ -1,9 +1,7 @@
 -- The parties' inputs as they lie in the lent list.
-use Rattle.std.specs.Prelude.{◌≡◌, ℕ, ◌+◌, ◌-◌, ◌≤◌, ◌<◌, List, [], ◌∷◌, ℤ, length, get_or, take, drop}
+use Rattle.std.specs.Prelude.{◌≡◌, ℕ, ◌+◌, ◌-◌, ◌≤◌, ◌<◌, List, [], ◌∷◌, ℤ, length, get_or, take, drop, Option, Some, None}
 use Rattle.rules.specs.Books.{Books}
 use Rattle.rules.specs.Lent.{sum}
-use Rattle.inputs.specs.declared.Taken.{Taken}
-use Rattle.inputs.specs.declared.Taken.TheVariants.{Input, UsedUp}
 
 -- party P's inputs start where those of the parties before it end, and are as many as its count says; places past the counts stay
 pub record Divided (counts at₀ end₀ at end : List ℕ) : Type 0 where
@@ -15,7 +13,7 @@ pub record Divided (counts at₀ end₀ at end : List ℕ) : Type 0 where
 abbrev pub InputsHold : ℕ → List ℤ → (at end : List ℕ) → Books → Type 0
 InputsHold n is at end b = (P : ℕ) → P < n → (b P).inputs ≡ take (get_or end P 0 - get_or at P 0) (drop (get_or at P 0) is)
 
--- the first of some inputs
-abbrev pub head_of : List ℤ → Taken
-head_of [] = UsedUp
-head_of (i ∷ is) = Input i
+-- the first of some inputs, if there is one
+abbrev pub head_of : List ℤ → Option ℤ
+head_of [] = None
+head_of (i ∷ is) = Some i

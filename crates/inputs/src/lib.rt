@@ -5,12 +5,6 @@ ghost use Rattle.std.specs.Prelude.{◌≡◌, ◌&&◌, ◌≤◌, ◌<◌, ◌
 ghost use Rattle.rules.specs.Lent.{sum};
 ghost use Rattle.inputs.specs.Inputs.{Divided, head_of};
 
-#[derive(Clone, Copy)]
-pub enum Taken {
-    Input(i32),
-    UsedUp,
-}
-
 // The counts are n in number and sum to the number of inputs.
 pub fn counts_fit(counts: &[usize], n: u8, inputs: usize) -> bool
     ensures { result ≡ (eqb (length counts.now) n && eqb (sum counts.now) inputs) }
@@ -19,14 +13,11 @@ pub fn counts_fit(counts: &[usize], n: u8, inputs: usize) -> bool
         return false;
     }
     let mut left = inputs;
-    let mut k = 0;
-    while k < counts.len() {
-        let count = counts[k];
-        if left < count {
+    for &count in counts {
+        let Some(rest) = left.checked_sub(count) else {
             return false;
-        }
-        left -= count;
-        k += 1;
+        };
+        left = rest;
     }
     left == 0
 }
@@ -37,25 +28,22 @@ pub fn divide(counts: &[usize], inputs: &[i32], at: &mut [usize], end: &mut [usi
     ensures { Divided counts.now at.old end.old at.new end.new }
 {
     let mut s = 0;
-    let mut k = 0;
-    while k < counts.len() {
+    for (k, &count) in counts.iter().enumerate() {
         at[k] = s;
-        s += counts[k];
+        s += count;
         end[k] = s;
-        k += 1;
     }
 }
 
-// The input of party p that is next.
-pub fn next_input(p: usize, inputs: &[i32], at: &[usize], end: &[usize]) -> Taken
+// The input of party p that is next, if any is left.
+pub fn next_input(p: usize, inputs: &[i32], at: &[usize], end: &[usize]) -> Option<i32>
     requires { (p < length at.now) × (p < length end.now) }
     ensures { result ≡ head_of (take (get_or end.now p 0 - get_or at.now p 0) (drop (get_or at.now p 0) inputs.now)) }
 {
     let i = at[p];
     if i < end[p] {
-        if i < inputs.len() {
-            return Taken::Input(inputs[i]);
-        }
+        inputs.get(i).copied()
+    } else {
+        None
     }
-    Taken::UsedUp
 }

@@ -4,6 +4,7 @@ use mathlib.Core.List.{List, ◌++◌}
 use mathlib.Core.Bool.{Bool, true, false}
 use Prim.Native.Nat.{ℕ, ◌+◌, ◌-◌, ◌≤◌, ◌<◌}
 use native.Mathlib.Omega.{arith}
+use Rattle.std.specs.Prelude.{Some, None}
 use lib.Dec.{leb}
 use lib.ListN.{length}
 use lib.Seq.{sets}
@@ -13,7 +14,6 @@ use Rattle.records.specs.Events.{event_bytes, held_back, fits_after, has_room}
 use Rattle.records.specs.Append.{Appends, Closes}
 use Rattle.records.specs.EventLaws.{sized, event_length}
 use Rattle.records.specs.declared.events.Event.{Event}
-use Rattle.records.specs.declared.events.Appended.TheVariants.{To, NoRoom}
 
 -- a run of stores right after another
 pub run_after : (us vs xs x1 x2 : List ℕ) (at : ℕ) → x1 ≡ sets xs at us → x2 ≡ sets x1 (at + length us) vs → x2 ≡ sets xs at (us ++ vs)
@@ -52,11 +52,11 @@ module _ (R used : ℕ) (e : Event) where
 
 -- the two answers to a write
 module _ (e : Event) (used : ℕ) (xs : List ℕ) where
-  pub no_room : (t : Bool) → t ≡ has_room (length xs) used e → t ≡ false → Appends e used xs NoRoom xs
+  pub no_room : (t : Bool) → t ≡ has_room (length xs) used e → t ≡ false → Appends e used xs None xs
   no_room t a h = record { answer = rw (← a, h); bytes = rw (← a, h) }
 
   pub appended : (t : Bool) (n : ℕ) (ys : List ℕ) → t ≡ has_room (length xs) used e → t ≡ true → n ≡ length (event_bytes e) → ys ≡ sets xs used (event_bytes e)
-      → Appends e used xs (To (used + n)) ys
+      → Appends e used xs (Some (used + n)) ys
   appended t n ys a h en ey = record { answer = rw (← a, h, en); bytes = rw (← a, h, ey) }
 
   pub not_closed : length xs < used + held_back → Closes e used xs used xs

@@ -26,13 +26,6 @@ pub enum Event {
     Stopped(u8, u16),
 }
 
-#[derive(Clone, Copy)]
-pub enum Appended {
-    // the bytes used after it
-    To(usize),
-    NoRoom,
-}
-
 impl Event {
     // The bytes held back for the last event, and the most that an event takes.
     pub const MAX: usize = 10;
@@ -85,15 +78,15 @@ impl Event {
         Event::fits(self.size(), room, used)
     }
 
-    // Writes the event after the `used` bytes of the record s, where it has room.
-    pub fn append(self, s: &mut [u8], used: usize) -> Appended
+    // Writes the event after the `used` bytes of the record s, where it has room. Answers how many bytes are then used.
+    pub fn append(self, s: &mut [u8], used: usize) -> Option<usize>
         ensures { Appends self used s.old result s.new }
     {
         if self.has_room(s.len(), used) {
             self.store(s, used);
-            return Appended::To(used + self.size());
+            return Some(used + self.size());
         }
-        Appended::NoRoom
+        None
     }
 
     // Writes the last event after the `used` bytes of a record, in what was held back for it. Answers how many bytes are then used.

@@ -6,6 +6,7 @@ use mathlib.Core.Option.{some}
 use Prim.Native.Nat.{ℕ, zero, suc, ◌+◌, ◌-◌, ◌≤◌, ◌<◌}
 use native.Mathlib.Decide.{dec_lt}
 use native.Mathlib.Omega.{arith}
+use Rattle.std.specs.Prelude.{Some, None}
 use lib.IntN.{ℤ}
 use lib.ListN.{length, get_or, set, take, drop, drop_of_length-le}
 use Rattle.limits.specs.Limits.{max_parties}
@@ -20,7 +21,6 @@ use Rattle.rules.specs.Single.{note_all, read_all, perform}
 use Rattle.rules.specs.declared.effects.Effect.TheVariants.{Reads}
 use Rattle.inputs.specs.Inputs.{InputsHold, head_of}
 use Rattle.single_step.specs.Steps.{EntryOf}
-use Rattle.inputs.specs.declared.Taken.TheVariants.{Input, UsedUp}
 use Rattle.single_step.specs.declared.Entry.TheVariants.{Stops, Notes}
 use Rattle.inputs.proofs.InputLaws.{inputs_taken, head_none, head_some}
 
@@ -55,11 +55,11 @@ module _ (is : List ℤ) (end at : List ℕ) (m : PartySet) (one : count m ≡ 1
   unfolding to_read
   held_inputs b h = rw reader (h (lowest m) (lowest_one m one).1)
 
-  pub read_none : head_of (take (get_or end P 0 - get_or at P 0) (drop (get_or at P 0) is)) ≡ UsedUp → EntryOf is end Reads m (Stops no_input) at at
+  pub read_none : head_of (take (get_or end P 0 - get_or at P 0) (drop (get_or at P 0) is)) ≡ None → EntryOf is end Reads m (Stops no_input) at at
   unfolding to_read perform read_all
   read_none e = record { comes = λ S k c b q h. rw (q, held_inputs b h ∙ head_none to_read e); inputs = λ b h. h }
 
-  pub read_some : (i : ℤ) → max_parties ≤ length at → head_of (take (get_or end P 0 - get_or at P 0) (drop (get_or at P 0) is)) ≡ Input i
+  pub read_some : (i : ℤ) → max_parties ≤ length at → head_of (take (get_or end P 0 - get_or at P 0) (drop (get_or at P 0) is)) ≡ Some i
       → EntryOf is end Reads m (Notes (Read i) (Clear i m)) at (set at P (get_or at P 0 + 1))
   unfolding to_read perform read_all
   read_some i long e =
@@ -69,7 +69,7 @@ module _ (is : List ℤ) (end at : List ℕ) (m : PartySet) (one : count m ≡ 1
       }
 
 -- where there is an input, its place is one of the list
-pub place_small : (k j : ℕ) (is : List ℤ) (i : ℤ) → head_of (take k (drop j is)) ≡ Input i → j < length is
+pub place_small : (k j : ℕ) (is : List ℤ) (i : ℤ) → head_of (take k (drop j is)) ≡ Some i → j < length is
 place_small k j is i e =
     elim (dec_lt j (length is)) [
       | yes h ↦ h
@@ -78,6 +78,6 @@ place_small k j is i e =
           absurd (nothing_there k (rw z at e))
     ]
   where
-    nothing_there : (k : ℕ) → head_of (take k []) ≡ Input i → ⊥
+    nothing_there : (k : ℕ) → head_of (take k []) ≡ Some i → ⊥
     nothing_there zero q = let z : ◌≡◌ {A = ℕ} 0 1 = cc in omega arith
     nothing_there (suc k) q = let z : ◌≡◌ {A = ℕ} 0 1 = cc in omega arith

@@ -12,7 +12,6 @@ ghost use Rattle.advance.specs.Advances.{Asked};
 use advance::Advanced;
 use advance::strides::far;
 use area::stand::{Next, Stand};
-use inputs::Taken;
 use parties::sets::PartySet;
 use records::events::Event;
 use rules::effects::{Effect, Move, Offer, View};
@@ -99,7 +98,7 @@ fn read(m: PartySet, inputs: &[i32], at: &mut [usize], end: &[usize]) -> Entry
     ensures { EntryOf inputs.now end.now Effect.Reads m result at.old at.new }
 {
     let p = m.lowest() as usize;
-    let Taken::Input(i) = inputs::next_input(p, inputs, at, end) else {
+    let Some(i) = inputs::next_input(p, inputs, at, end) else {
         return Entry::Stops(refusals::NO_INPUT);
     };
     at[p] = at[p] + 1;

@@ -4,6 +4,7 @@ use mathlib.Core.Bool.{Bool, true, false}
 use mathlib.Core.List.{List, ◌++◌}
 use Prim.Native.Nat.{ℕ, ◌+◌, ◌-◌, ◌*◌, ◌≤◌, ◌<◌}
 use native.Mathlib.Omega.{arith}
+use Rattle.std.specs.Prelude.{Option}
 use lib.IntN.{ℤ}
 use lib.ListN.{length, get_or, set, take, drop}
 use lib.Seq.{set-get_or, take_at, drop_at, length-take-le}
@@ -22,7 +23,6 @@ use Rattle.rules.specs.declared.effects.Effect.{Effect}
 use Rattle.rules.specs.declared.effects.Effect.TheVariants.{Goes}
 use Rattle.rules.specs.declared.effects.View.TheVariants as View'
 use Rattle.inputs.specs.Inputs.{head_of}
-use Rattle.inputs.specs.declared.Taken.{Taken}
 use Rattle.area.specs.Levels.{control_of, next_of}
 use Rattle.seats.specs.Seats.{seat_at, seated, site_of, IsOver, DeepSeat, Saves}
 use Rattle.area.specs.declared.stand.Stand.{Stand}
@@ -161,7 +161,7 @@ pub turn_landed : (bs : List ℕ) (nodes P n room : ℕ) (is : List ℤ) (end at
     → P * row_size + row_size ≤ length work → length ws ≡ row_size → Turns bs nodes P n room is end true at bytes lengths work at (back room P bytes ys) (set lengths P u') (back row_size P work ws)
 turn_landed bs nodes P n room is end at bytes lengths work t sits next w1 advances u' ys ws lands place long area =
     let m = step_lands bs nodes t (record { index = P }) (get_or lengths P 0) (row room P bytes) (area_of P work) w1 next u' ys ws advances lands in
-    let input : Taken = head_of (take (get_or end P 0 - get_or at P 0) (drop (get_or at P 0) is)) in
+    let input : Option ℤ = head_of (take (get_or end P 0 - get_or at P 0) (drop (get_or at P 0) is)) in
     turn_asked bs nodes P n room is end at bytes lengths work t sits (Goes m.0) m.1 tt at (back room P bytes ys) (set lengths P u') (back row_size P work ws)
     (alone_none (Goes m.0) t P room is end at bytes lengths work input 0 u' ys ws place long area refl refl
     (acts_goes input t (record { index = P }) (get_or lengths P 0) (row room P bytes) (area_of P work) u' ys ws (Goes m.0) m.0 refl m.2) refl)

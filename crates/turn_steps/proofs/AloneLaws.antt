@@ -1,13 +1,12 @@
 -- A site by itself: what it takes of its inputs, and what it leaves in the lent bytes. Assumes nothing.
 use mathlib.Core.Path.{◌≡◌, refl, sym, ap, ◌∙◌, subst}
-use mathlib.Core.List.{List, [], ◌∷◌}
+use mathlib.Core.List.{List, []}
 use Prim.Native.Nat.{ℕ, ◌+◌, ◌-◌, ◌*◌, ◌≤◌, ◌<◌}
 use native.Mathlib.Nat.{add-zero}
 use native.Mathlib.Decide.{dec_lt}
 use native.Mathlib.Omega.{arith}
 use borrow.Author.Tests.{eq-eqb, ne_eqb}
-use denote.Enum.{Declared.tag_of}
-use types.Run.{OneOf, miss}
+use Rattle.std.specs.Prelude.{Option, None}
 use lib.IntN.{ℤ}
 use lib.ListN.{length, get_or, set, take, drop, drop_of_length-le}
 use lib.Seq.{take-nil, set-get_or}
@@ -20,11 +19,8 @@ use Rattle.rules.specs.Joint.{Site, Sites, put, book_of}
 use Rattle.rules.specs.declared.effects.Effect.{Effect}
 use Rattle.rules.specs.declared.effects.Effect.TheVariants.{Refuse, Goes, Reads, Writes}
 use Rattle.rules.specs.declared.effects.Effect.TheVariants as Effect'
-use Rattle.rules.specs.contracts.effects.Effect.{the_type}
 use Rattle.invariants.specs.Room.{Fits}
 use Rattle.inputs.specs.Inputs.{head_of}
-use Rattle.inputs.specs.declared.Taken.{Taken}
-use Rattle.inputs.specs.declared.Taken.TheVariants.{UsedUp}
 use Rattle.area.specs.Levels.{control_of}
 use Rattle.area.specs.declared.stand.Stand.{Stand}
 use Rattle.acts.specs.Acts as Site
@@ -37,25 +33,18 @@ use Rattle.concludes.proofs.StandLaws.{stands_length, stands_long, stands_change
 use Rattle.turn_steps.proofs.InputLaws.{acted_stand}
 
 -- ---- inputs taken
-pub none_read : (effect : Effect) (input : Taken) → OneOf (0 ∷ 1 ∷ 3 ∷ 4 ∷ []) (tag_of the_type effect) → 0 ≡ taken_by effect input
-none_read (Refuse r) input h = refl
-none_read (Goes mv) input h = refl
-none_read Reads input h = absurd (miss (0 ∷ 1 ∷ 3 ∷ 4 ∷ []) 2 tt h)
-none_read (Writes i) input h = refl
-none_read (Effect'.Meets mt o) input h = refl
-
 -- where an input is taken its place is in the list
-pub taken_inside : (is : List ℤ) (a m : ℕ) (effect : Effect) (input : Taken) (k : ℕ) → input ≡ head_of (take m (drop a is)) → k ≡ taken_by effect input → 0 < k → a < length is
+pub taken_inside : (is : List ℤ) (a m : ℕ) (effect : Effect) (input : Option ℤ) (k : ℕ) → input ≡ head_of (take m (drop a is)) → k ≡ taken_by effect input → 0 < k → a < length is
 taken_inside is a m effect input k e l h =
     elim (dec_lt a (length is)) [
       | yes q ↦ q
       | no q ↦
           let z : drop a is ≡ [] = drop_of_length-le is {i = a} (omega arith) in
-          let u : input ≡ UsedUp = e ∙ rw (z, take-nil) in
+          let u : input ≡ None = e ∙ rw (z, take-nil) in
           absurd (let n : k ≡ 0 = l ∙ ap (taken_by effect) u ∙ never effect in omega arith)
     ]
   where
-    never : (f : Effect) → taken_by f UsedUp ≡ 0
+    never : (f : Effect) → taken_by f None ≡ 0
     never (Refuse r) = refl
     never (Goes mv) = refl
     never Reads = refl
@@ -63,7 +52,7 @@ taken_inside is a m effect input k e l h =
     never (Effect'.Meets mt o) = refl
 
 -- ---- a site by itself
-module _ (effect : Effect) (t : Stand) (P room : ℕ) (is : List ℤ) (end at bytes lengths work : List ℕ) (input : Taken) (k u' : ℕ) (ys ws : List ℕ) (place : P < length at)
+module _ (effect : Effect) (t : Stand) (P room : ℕ) (is : List ℤ) (end at bytes lengths work : List ℕ) (input : Option ℤ) (k u' : ℕ) (ys ws : List ℕ) (place : P < length at)
     (long : P * row_size + row_size ≤ length work) (area : length ws ≡ row_size) (next : input ≡ head_of (take (get_or end P 0 - get_or at P 0) (drop (get_or at P 0) is))) (takes : k ≡ taken_by effect input)
     (act : Site.Acts effect input t (record { index = P }) (get_or lengths P 0) (row room P bytes) (area_of P work) u' ys ws) where
   pub alone_by : ActsAlone effect t P room is end at bytes lengths work (set at P (get_or at P 0 + k)) (back room P bytes ys) (set lengths P u') (back row_size P work ws)

@@ -6,6 +6,7 @@ use mathlib.Core.Option.{Option, none, some}
 use Prim.Native.Nat.{ℕ, zero, suc, ◌+◌, ◌-◌, ◌<◌}
 use native.Mathlib.Decide.{ℕ_discrete}
 use native.Mathlib.Omega.{arith}
+use Rattle.std.specs.Prelude.{Option as Option'}
 use lib.IntN.{ℤ, pos}
 use lib.ListN.{length, get_or, set, take, drop}
 use lib.Seq.{take-nil, drop-drop, get_or-set_same, get_or-set_other}
@@ -27,7 +28,6 @@ use Rattle.rules.specs.declared.effects.Effect.TheVariants.{Refuse, Goes, Reads,
 use Rattle.invariants.proofs.BookLaws.{none_taken}
 use Rattle.invariants.proofs.MeetingLaws.{meeting_each}
 use Rattle.inputs.specs.Inputs.{head_of}
-use Rattle.inputs.specs.declared.Taken.{Taken}
 use Rattle.site.specs.Own.{acted}
 use Rattle.meets.specs.Places.{InputsOf, InputsStand}
 use Rattle.turn_steps.specs.Steps.{taken_by}
@@ -53,14 +53,14 @@ settle_inputs S P c b o mv = go (room_for S.room P o b)
     go false = tt
 
 -- what a site does by itself takes the inputs that it is said to take
-pub acted_inputs : (S : Setting) (P : ℕ) (c : Control) (b : Book) (effect : Effect) (input : Taken) → input ≡ head_of b.inputs
+pub acted_inputs : (S : Setting) (P : ℕ) (c : Control) (b : Book) (effect : Effect) (input : Option' ℤ) → input ≡ head_of b.inputs
     → ToCome (drop (taken_by effect input) b.inputs) (acted S P c b effect)
 unfolding acted read_own note add event_for
 acted_inputs S P c b (Refuse r) input h = tt
 acted_inputs S P c b (Goes mv) input h = settle_inputs S P c b none mv
 acted_inputs S P c b Reads input h = go b.inputs input h refl
   where
-    go : (is : List ℤ) (x : Taken) → x ≡ head_of is → is ≡ b.inputs → ToCome (drop (taken_by Reads x) b.inputs) (read_own S P c b is)
+    go : (is : List ℤ) (x : Option' ℤ) → x ≡ head_of is → is ≡ b.inputs → ToCome (drop (taken_by Reads x) b.inputs) (read_own S P c b is)
     go [] x e q = tt
     go (i ∷ is) x e q = rw e (settle_inputs S P c b (some (Read i)) (Hand (Clear i c.mode)))
 acted_inputs S P c b (Writes i) input h = settle_inputs S P c b (some (Wrote i)) (Hand (Clear (pos 0) c.mode))
@@ -109,7 +109,7 @@ module _ (is : List ℤ) (end at : List ℕ) (n : ℕ) (J : Sites) (h : InputsSt
       (λ i b q Q s. inputs_joined is end at Q S i s) P (h P l)
 
 -- ---- site P acted by itself, and its next input is k further on
-pub acted_stand : (is : List ℤ) (end at : List ℕ) (n : ℕ) (J J' : Sites) (P : ℕ) (S : Setting) (c : Control) (b : Book) (effect : Effect) (input : Taken) (k : ℕ) → P < length at
+pub acted_stand : (is : List ℤ) (end at : List ℕ) (n : ℕ) (J J' : Sites) (P : ℕ) (S : Setting) (c : Control) (b : Book) (effect : Effect) (input : Option' ℤ) (k : ℕ) → P < length at
     → InputsStand is end n at J → P < n → J P ≡ running c b → J' P ≡ acted S P c b effect → ((Q : ℕ) → (Q ≡ P → ⊥) → J' Q ≡ J Q) → input ≡ head_of b.inputs → k ≡ taken_by effect input
     → InputsStand is end n (set at P (get_or at P 0 + k)) J'
 acted_stand is end at n J J' P S c b effect input k place h inside runs own others head e Q l =

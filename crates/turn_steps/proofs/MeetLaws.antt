@@ -5,6 +5,8 @@ use mathlib.Core.List.{List}
 use mathlib.Core.Option.{some}
 use Prim.Native.Nat.{ℕ}
 use native.Mathlib.Omega.{arith}
+use Rattle.std.specs.Prelude.{Option, Some}
+use Rattle.std.specs.Bool.{then_some}
 use lib.IntN.{ℤ}
 use Rattle.parties.specs.Sets.{member}
 use Rattle.parties.specs.declared.sets.PartySet.{PartySet}
@@ -25,8 +27,7 @@ use Rattle.concludes.specs.Concludes.{concluding, ConcludesAll}
 use Rattle.turn_steps.specs.Steps.{Meets}
 use Rattle.meets.specs.declared.present.Gathered.{Gathered}
 use Rattle.meets.specs.declared.present.Gathered.TheVariants.{Missing, All}
-use Rattle.concludes.specs.declared.Outcome.{Outcome}
-use Rattle.concludes.specs.declared.Outcome.TheVariants.{Joins, Parts}
+use Rattle.concludes.specs.declared.Joined.{Joined}
 use Rattle.concludes.proofs.StandLaws.{stands_same, stands_sits}
 
 -- what was gathered, taken apart
@@ -53,18 +54,22 @@ unfolding concluded
 concluded_by S m mt i h f J k b q a =
     ap (λ (t : Bool). counted (cond t (put_all m (joins S i) J) (put_all m parts J))) (ap (λ (x : ℕ). all_agree mt x m i h f) q ∙ sym a)
 
+-- the meeting, and the number that it is about
+abbrev to : Meeting → ℤ → Joined
+to mt i = record { meeting = mt; number = i }
+
 -- whoever is at the meeting and joins it comes to what its outcome says
 module _ (S : Setting) (e : ℕ) (m : PartySet) (mt : Meeting) (i : ℤ) (asks : joint_meeting (node_at S.program e) ≡ some mt) (P : ℕ) where
-  joins_concludes : (s : Site) → is_there (attendance S e m P s) ≡ true → joins S i P s ≡ concluding (Joins mt i) S P s
+  joins_concludes : (s : Site) → is_there (attendance S e m P s) ≡ true → joins S i P s ≡ concluding (Some (to mt i)) S P s
   unfolding joins joins_by
   joins_concludes (running c b) r = rw (there_attends S e m P c b mt asks r).1
   joins_concludes (over f b) r = refl
 
-  joined : (J : Sites) → (member P m ≡ true → is_there (attendance S e m P (J P)) ≡ true) → put_all m (joins S i) J P ≡ put_all m (concluding (Joins mt i) S) J P
+  joined : (J : Sites) → (member P m ≡ true → is_there (attendance S e m P (J P)) ≡ true) → put_all m (joins S i) J P ≡ put_all m (concluding (Some (to mt i)) S) J P
   unfolding put_all
   joined J h = go (member P m) h
     where
-      go : (t : Bool) → (t ≡ true → is_there (attendance S e m P (J P)) ≡ true) → cond t (joins S i P (J P)) (J P) ≡ cond t (concluding (Joins mt i) S P (J P)) (J P)
+      go : (t : Bool) → (t ≡ true → is_there (attendance S e m P (J P)) ≡ true) → cond t (joins S i P (J P)) (J P) ≡ cond t (concluding (Some (to mt i)) S P (J P)) (J P)
       go true h = joins_concludes (J P) (h refl)
       go false h = refl
 
@@ -107,16 +112,16 @@ module _ (node : JointNode) (e : ℕ) (m : PartySet) (mt : Meeting) (n room : �
           ∙ ap (λ (x : Offer). concluded (setting_of G.program room) m mt x (at G J read st) J) brings
           ∙ concluded_by (setting_of G.program room) m mt i h (at G J read st) J n b G.parties (agrees.comes (sitting G J read st))
 
-      come_to : (outcome : Outcome) → ConcludesAll outcome m n room bytes lengths work bytes' lengths' work' → joint_meeting (node_at G.program e) ≡ some mt
-          → (x : Bool) → outcome ≡ cond x (Joins mt i) Parts
+      come_to : (outcome : Option Joined) → ConcludesAll outcome m n room bytes lengths work bytes' lengths' work' → joint_meeting (node_at G.program e) ≡ some mt
+          → (x : Bool) → outcome ≡ then_some x (to mt i)
           → Stands G (cond x (put_all m (joins (setting_of G.program room) i) J) (put_all m parts J)) bytes' lengths' work'
       come_to outcome k asks true d =
           let S : Setting = setting_of G.program room in
           let there : all_of n m (λ P. is_there (at G J read st P)) ≡ true = (gathered_all G J read st o all).0 in
-          stands_same G (put_all m (concluding (Joins mt i) S) J) (put_all m (joins S i) J) bytes' lengths' work' ((rw d at k).comes bs nodes G J st)
+          stands_same G (put_all m (concluding (Some (to mt i)) S) J) (put_all m (joins S i) J) bytes' lengths' work' ((rw d at k).comes bs nodes G J st)
           (λ Q h. joined S e m mt i asks Q J (λ inside. all_member m (λ P. is_there (at G J read st P)) n there Q h inside))
       come_to outcome k asks false d = (rw d at k).comes bs nodes G J st
 
-    pub meets_done : (outcome : Outcome) → outcome ≡ cond b (Joins mt i) Parts → ConcludesAll outcome m n room bytes lengths work bytes' lengths' work'
+    pub meets_done : (outcome : Option Joined) → outcome ≡ then_some b (to mt i) → ConcludesAll outcome m n room bytes lengths work bytes' lengths' work'
         → Meets node e m mt n room true bytes lengths work bytes' lengths' work'
     meets_done outcome q k = record { comes = λ bs nodes G J read asks st. rw (agreed_is G J read st) (come_to G J read st outcome k asks b q, refl) }

@@ -1,5 +1,5 @@
 -- What a turn comes to in the lent bytes: a meeting of all members, or what a site does by itself.
-use Rattle.std.specs.Prelude.{◌≡◌, ℕ, ◌<◌, Bool, cond, List, ℤ}
+use Rattle.std.specs.Prelude.{◌≡◌, ℕ, ◌<◌, Bool, cond, List, ℤ, Option, Some, None}
 use Rattle.std.proofs.Math.Option.{some}
 use Rattle.parties.specs.declared.sets.PartySet.{PartySet}
 use Rattle.nodes.specs.Nodes.{joint_node}
@@ -12,8 +12,6 @@ use Rattle.rules.specs.declared.effects.Meeting.{Meeting}
 use Rattle.rules.specs.declared.effects.Effect.{Effect}
 use Rattle.rules.specs.declared.effects.Effect.TheVariants.{Refuse, Goes, Reads, Writes}
 use Rattle.rules.specs.declared.effects.Effect.TheVariants as Effect'
-use Rattle.inputs.specs.declared.Taken.{Taken}
-use Rattle.inputs.specs.declared.Taken.TheVariants.{Input, UsedUp}
 use Rattle.area.specs.Rows.{area_of}
 use Rattle.area.specs.Levels.{control_of}
 use Rattle.area.specs.declared.stand.Stand.{Stand}
@@ -31,11 +29,11 @@ pub record Meets (node : JointNode) (e : ℕ) (m : PartySet) (mt : Meeting) (n r
       → Stands G (meeting (setting_of G.program room) e m mt J).sites bytes' lengths' work' × (once r ≡ (meeting (setting_of G.program room) e m mt J).count)
 
 -- how many inputs a site takes by what it does
-abbrev pub taken_by : Effect → Taken → ℕ
+abbrev pub taken_by : Effect → Option ℤ → ℕ
 taken_by (Refuse refusal) input = 0
 taken_by (Goes mv) input = 0
-taken_by Reads (Input i) = 1
-taken_by Reads UsedUp = 0
+taken_by Reads (Some i) = 1
+taken_by Reads None = 0
 taken_by (Writes i) input = 0
 taken_by (Effect'.Meets mt o) input = 0
 

@@ -1,31 +1,19 @@
 // What a turn comes to: a meeting of all members, or what a site does by itself.
 #![tactic(auto)]
 
-ghost use Rattle.std.specs.Prelude.{◌≡◌, cond, ◌*◌, ◌+◌, ◌≤◌, ◌<◌, length};
+ghost use Rattle.std.specs.Prelude.{◌≡◌, ◌*◌, ◌+◌, ◌≤◌, ◌<◌, length};
 ghost use Rattle.limits.specs.Limits.{max_parties, max_frames};
 ghost use Rattle.area.specs.Rows.{row_size};
 ghost use Rattle.advance.specs.Advances.{Asked};
 ghost use Rattle.turn_steps.specs.Steps.{once, taken_by, Meets, ActsAlone};
 
 use area::stand::{ROW, Stand};
-use concludes::Outcome;
-use inputs::Taken;
+use concludes::Joined;
 use limits::Party;
 use meets::present::Gathered;
 use nodes::JointNode;
 use parties::sets::PartySet;
 use rules::effects::{Effect, Meeting, Offer};
-
-// What a meeting about the number comes to.
-fn outcome_of(agreed: bool, mt: Meeting, number: i32) -> Outcome
-    ensures { result ≡ cond agreed (Outcome.Joins mt number) Outcome.Parts }
-{
-    if agreed {
-        Outcome::Joins(mt, number)
-    } else {
-        Outcome::Parts
-    }
-}
 
 // All of the mode m meet at the node e, if they can: whether anything was done.
 pub fn meet(
@@ -49,22 +37,19 @@ pub fn meet(
         return false;
     };
     let agreed = meets::present::agreed(node, e, m, mt, n, room, number, holders, lengths, work);
-    let outcome = outcome_of(agreed, mt, number);
+    let outcome = agreed.then_some(Joined {
+        meeting: mt,
+        number,
+    });
     concludes::conclude(outcome, m, n, room, bytes, lengths, work);
     true
 }
 
 // A site takes an input by what it does.
-fn takes_input(effect: Effect, input: Taken) -> bool
+fn takes_input(effect: Effect, input: Option<i32>) -> bool
     ensures { once result ≡ taken_by effect input }
 {
-    let Effect::Reads = effect else {
-        return false;
-    };
-    let Taken::Input(_) = input else {
-        return false;
-    };
-    true
+    matches!(effect, Effect::Reads) && input.is_some()
 }
 
 // Site p, which stands at t, does what its own rule asks.

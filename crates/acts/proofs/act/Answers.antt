@@ -1,7 +1,6 @@
 -- `acts::act` meets its contract. Assumes nothing.
-use mathlib.Core.List.{[]}
 use native.Mathlib.Omega.{arith}
-use Rattle.acts.proofs.ActLaws.{acts_refuse, acts_writes, acts_unread, acts_reads, acts_never}
+use Rattle.acts.proofs.ActLaws.{acts_refuse, acts_writes, acts_unread, acts_reads}
 use Rattle.numbers.proofs.IntegerLaws.{read32}
 use Rattle.acts.proofs.act.Goals as goal
 
@@ -11,18 +10,12 @@ returns-in_default c = let a = c.args in acts_unread a.input a.t a.p a.used a.by
 pub returns-in-Refuse : goal.returns-in-Refuse
 returns-in-Refuse c = let a = c.args in acts_refuse a.input a.t a.p a.used a.bytes.now a.area.now c.stop.result _ _ a.effect _ c.in-Refuse.is c.stop.ensures
 
-pub returns-in-Goes : goal.returns-in-Goes
-returns-in-Goes c = absurd (rw c.in-Goes.is at c.requires.2)
-
-pub returns-in-Input : goal.returns-in-Input
-returns-in-Input c = let a = c.args in
-    acts_reads a.input a.t a.p a.used a.bytes.now a.area.now c.settle.result _ _ a.effect c.in-Input.i c.in-Reads.is c.in-Input.is
-    (rw (read32 c.in-Input.i (record { sfits = omega arith })) at c.settle.ensures)
+pub returns-in-Some : goal.returns-in-Some
+returns-in-Some c = let a = c.args in
+    acts_reads a.input a.t a.p a.used a.bytes.now a.area.now c.settle.result _ _ a.effect c.in-Some.i c.in-Reads.is c.in-Some.is
+    (rw (read32 c.in-Some.i (record { sfits = omega arith })) at c.settle.ensures)
 
 pub returns-in-Writes : goal.returns-in-Writes
 returns-in-Writes c = let a = c.args in
     acts_writes a.input a.t a.p a.used a.bytes.now a.area.now c.settle-in-Writes.result _ _ a.effect c.in-Writes.i c.in-Writes.is
     (rw (read32 c.in-Writes.i (record { sfits = omega arith })) at c.settle-in-Writes.ensures)
-
-pub returns-in-Meets : goal.returns-in-Meets
-returns-in-Meets c = let a = c.args in acts_never a.input a.t a.p a.used a.bytes.now a.area.now 0 [] [] a.effect _ _ c.in-Meets.is

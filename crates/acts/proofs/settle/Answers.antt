@@ -15,6 +15,6 @@ pub returns : goal.returns
 returns c = let a = c.args in
     record {
       settles = λ S R. notes a.ev (Hand a.v) a.t a.p.index a.used a.bytes.now a.area.now S R c.event_for.result c.event_for.ensures
-          _ _ c.hand_back.result _ _ (rw c.in-To.is at c.append.ensures) c.hand_back.ensures;
+          _ _ c.hand_back.result _ _ (rw c.in-Some.is at c.append.ensures) c.hand_back.ensures;
       table = c.hand_back.ensures.table;
     }

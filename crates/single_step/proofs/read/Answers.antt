@@ -25,7 +25,7 @@ pub overflow_add-at : goal.overflow_add-at
 overflow_add-at c =
     let a = c.args in
     let p = c.lowest-p.result in
-    omega (arith, place_small (get_or a.end.now p 0 - get_or a.at.now p 0) (get_or a.at.now p 0) a.inputs.now _ (sym c.next_input.ensures ∙ c.in-Input.is))
+    omega (arith, place_small (get_or a.end.now p 0 - get_or a.at.now p 0) (get_or a.at.now p 0) a.inputs.now _ (sym c.next_input.ensures ∙ c.in-Some.is))
 
 pub bounds-at-p-2 : goal.bounds-at-p-2
 bounds-at-p-2 c = omega (arith, (lowest_one _ c.requires.2).1, c.lowest-p.ensures)
@@ -33,4 +33,4 @@ bounds-at-p-2 c = omega (arith, (lowest_one _ c.requires.2).1, c.lowest-p.ensure
 pub returns : goal.returns
 returns c =
     let a = c.args in
-    rw (read32 c.in-Input.i (record { sfits = omega arith })) (read_some a.inputs.now a.end.now a.at.now a.m c.requires.2 _ c.lowest-p.ensures c.in-Input.i c.requires.0 (sym c.next_input.ensures ∙ c.in-Input.is))
+    rw (read32 c.in-Some.i (record { sfits = omega arith })) (read_some a.inputs.now a.end.now a.at.now a.m c.requires.2 _ c.lowest-p.ensures c.in-Some.i c.requires.0 (sym c.next_input.ensures ∙ c.in-Some.is))

@@ -7,20 +7,7 @@ use Rattle.area.specs.Rows.{row_size}
 use Rattle.turn_steps.specs.Steps.{once}
 use Rattle.area.proofs.RowLaws.{row_length}
 use Rattle.turn_steps.proofs.AloneLaws.{taken_inside, alone_by, alone_none}
-use borrow.Author.Rules.{rules}
 use Rattle.turn_steps.proofs.act_alone.Goals as goal
-
-pub next_input-input-requires : goal.next_input-input-requires
-next_input-input-requires c = (c.requires.4, c.requires.5)
-
-pub act-requires : goal.act-requires
-act-requires c = let p = c.requires in (p.0, search rules, p.6)
-
-pub takes_input-requires : goal.takes_input-requires
-takes_input-requires c = tt
-
-pub bounds-at-i : goal.bounds-at-i
-bounds-at-i c = c.requires.4
 
 pub overflow_add-at : goal.overflow_add-at
 overflow_add-at c = let a = c.args in
@@ -30,9 +17,6 @@ overflow_add-at c = let a = c.args in
           c.next_input-input.ensures (sym (ap once c.if-takes_input.true) ∙ c.takes_input.ensures) (omega arith),
       c.well_formed,
     )
-
-pub bounds-at-i-then-takes_input : goal.bounds-at-i-then-takes_input
-bounds-at-i-then-takes_input c = c.requires.4
 
 pub returns-then-takes_input : goal.returns-then-takes_input
 returns-then-takes_input c = let a = c.args in

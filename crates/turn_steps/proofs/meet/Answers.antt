@@ -17,4 +17,4 @@ returns c = let a = c.args in
     let same = read32 c.in-Secret.number (record { sfits = omega arith }) in
     meets_done a.node a.e a.m a.mt a.n a.room a.bytes.now a.lengths.now a.work.now c.gather.result c.gather.ensures
     _ c.in-Secret.number _ c.in-All.is c.in-Secret.is c.agreed-agreed.result (rw same at c.agreed-agreed.ensures) _ _ _
-    c.outcome_of-outcome.result (rw same at c.outcome_of-outcome.ensures) c.conclude.ensures
+    c.then_some-outcome.result (rw same at c.then_some-outcome.ensures) c.conclude.ensures
