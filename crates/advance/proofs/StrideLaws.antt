@@ -92,10 +92,6 @@ back_length P xs ys fits long =
 
 module _ (joint : Bool) (ts bs : List ℕ) (nodes first : ℕ) (s : Stand) (x : List ℕ) (k P : ℕ) (turn : P ≡ whose joint ts (first + k)) (came : Option Did)
     (ys : List ℕ) (here : InRow joint P bs nodes s came (area_of P x) ys) (long : length ys ≡ row_size) where
-  -- the last turn
-  pub turn_last : (start : Stand) (w : List ℕ) (most : ℕ) → k < most → Led joint ts bs nodes first k start w s x → StridesTo joint ts bs nodes first start most (record { moves = k; came = came }) w (back row_size P x ys)
-  turn_last start w most few led = (few, s, x, led, subst (λ (p : ℕ). AmongRows p (InRow joint p bs nodes s came) x (back row_size P x ys)) turn (ys, here, long, refl))
-
   -- it led on; no more frames are down than there are levels for
   pub turn_on : (t : Stand) (w : List ℕ) → Led joint ts bs nodes first k t w s x → (u : Stand) → Some u ≡ leads came
       → (u.depth.frames ≤ max_frames) × Led joint ts bs nodes first (k + 1) t w u (back row_size P x ys)
