@@ -1,109 +1,57 @@
 -- Turns one after the other: what a turn in its row comes to, turns that led on, and the single run, whose one row is all there is. Assumes nothing.
 use mathlib.Core.Path.{◌≡◌, refl, sym, ap, ◌∙◌, subst}
-use mathlib.Core.Bool.{Bool, true, false, true≢false, false≢true}
-use mathlib.Core.List.{List, [], ◌∷◌, append-nil}
+use mathlib.Core.Bool.{Bool, true, false}
+use mathlib.Core.List.{List, append-nil}
 use Prim.Native.Nat.{ℕ, zero, suc, ◌+◌, ◌*◌, ◌≤◌, ◌<◌}
 use native.Mathlib.Omega.{arith}
-use denote.Enum.{Declared.tag_of}
-use types.Run.{OneOf, miss}
 use lib.ListN.{length, take, length-append, length-drop, drop_of_length-le}
 use lib.Seq.{take_all, length-take-le}
+use Rattle.std.specs.Prelude.{Option, Some, None, IsSome}
 use Rattle.limits.specs.Limits.{max_frames}
-use Rattle.rules.specs.declared.effects.View.{View}
 use Rattle.rules.specs.declared.effects.View.TheVariants.{Whole}
 use Rattle.area.specs.Rows.{row_size, area_of, back}
 use Rattle.area.specs.declared.stand.Stand.{Stand}
-use Rattle.area.specs.declared.stand.Next.{Next}
 use Rattle.area.specs.declared.stand.Next.TheVariants.{On, Ends, Full}
-use Rattle.area.specs.contracts.stand.Next.{the_type as next-type}
-use Rattle.seats.specs.Seats.{IsOver, DeepSeat, Saves}
-use Rattle.seats.specs.declared.Seat.{Seat}
-use Rattle.seats.specs.declared.Seat.TheVariants.{Running, Finished, Stopped}
-use Rattle.seats.specs.contracts.Seat.{the_type as seat-type}
+use Rattle.seats.specs.Seats.{DeepSeat}
+use Rattle.seats.specs.declared.Seat.TheVariants.{Running}
 use Rattle.seats.proofs.SeatLaws.{seat_deep}
 use Rattle.advance.specs.Advances.{Advances, Moves, GoesFar}
-use Rattle.advance.specs.Strides.{whose, view_of, RowsFit, seat_of, Keeps, onward, leads, Kept, InRow, LeadsOn, AmongRows, Led, StridesTo}
+use Rattle.advance.specs.Strides.{whose, view_of, RowsFit, seat_of, onward, leads, Kept, StepsInRow, InRow, LeadsOn, AmongRows, Led, StridesTo}
 use Rattle.advance.specs.declared.Advanced.{Advanced}
 use Rattle.advance.specs.declared.Advanced.TheVariants.{Moved, Asks, Joins}
-use Rattle.advance.specs.declared.strides.Came.{Came}
-use Rattle.advance.specs.declared.strides.Came.TheVariants.{Did, Over}
-use Rattle.advance.specs.declared.strides.Onward.{Onward}
-use Rattle.advance.specs.declared.strides.Onward.TheVariants.{To, Not}
+use Rattle.advance.specs.declared.strides.Did.{Did}
 use Rattle.advance.specs.declared.strides.Strode.{Strode}
-use Rattle.advance.specs.contracts.Advanced.{the_type as advanced-type}
 use Rattle.advance.proofs.AdvanceLaws.{no_moves, one_more}
 
--- ---- where a step leads
-
--- a step that is no move
-pub leads_none : (s : Stand) (y : Advanced) → OneOf (1 ∷ 2 ∷ []) (tag_of advanced-type y) → Not ≡ leads (Did s y)
-leads_none s (Moved next) h = absurd (miss (1 ∷ 2 ∷ []) 0 tt h)
-leads_none s (Asks effect) h = refl
-leads_none s Joins h = refl
-
--- a move that does not lead on
-pub leads_not : (s : Stand) (next : Next) → OneOf (1 ∷ 2 ∷ []) (tag_of next-type next) → Not ≡ leads (Did s (Moved next))
-leads_not s (On t) h = absurd (miss (1 ∷ 2 ∷ []) 0 tt h)
-leads_not s (Ends v) h = refl
-leads_not s Full h = refl
-
 -- ---- a turn in its row
-pub keeps_saved : (joint : Bool) (t : Stand) (w w' : List ℕ) → joint ≡ true → Saves (Running t) w w' → Keeps joint t w w'
-keeps_saved true t w w' h s = record { saves = λ q. s; same = λ q. absurd (true≢false q) }
-keeps_saved false t w w' h s = absurd (false≢true h)
-
-pub keeps_none : (joint : Bool) (t : Stand) (w : List ℕ) → joint ≡ false → Keeps joint t w w
-keeps_none joint t w h = record { saves = λ q. absurd (true≢false (sym q ∙ h)); same = λ q. refl }
-
 -- no more frames are down than there are levels for
-pub seat_few : (joint : Bool) (t : Stand) (w : List ℕ) → t.depth.frames ≤ max_frames → DeepSeat (seat_of joint t w)
+seat_few : (joint : Bool) (t : Stand) (w : List ℕ) → t.depth.frames ≤ max_frames → DeepSeat (seat_of joint t w)
 seat_few true t w few = seat_deep w
 seat_few false t w few = few
 
-over_tag : (seat : Seat) → OneOf (1 ∷ 2 ∷ []) (tag_of seat-type seat) → IsOver seat
-over_tag (Running t) h = miss (1 ∷ 2 ∷ []) 0 tt h
-over_tag Finished h = tt
-over_tag Stopped h = tt
+pub running_few : (joint : Bool) (t s : Stand) (w : List ℕ) → Running s ≡ seat_of joint t w → t.depth.frames ≤ max_frames → s.depth.frames ≤ max_frames
+running_few joint t s w is few = subst DeepSeat (sym is) (seat_few joint t w few)
 
 -- where another step may follow, a move led on
-onward_is : (y : Advanced) (t : Stand) → To t ≡ onward y → y ≡ Moved (On t)
+onward_is : (y : Advanced) (t : Stand) → Some t ≡ onward y → y ≡ Moved (On t)
 onward_is (Moved (On u)) t e = let same : t ≡ u = cc in ap (λ (x : Stand). Moved (On x)) (sym same)
-onward_is (Moved (Ends v)) t e = absurd (let z : ◌≡◌ {A = ℕ} 0 1 = cc in omega arith)
-onward_is (Moved Full) t e = absurd (let z : ◌≡◌ {A = ℕ} 0 1 = cc in omega arith)
-onward_is (Asks effect) t e = absurd (let z : ◌≡◌ {A = ℕ} 0 1 = cc in omega arith)
-onward_is Joins t e = absurd (let z : ◌≡◌ {A = ℕ} 0 1 = cc in omega arith)
+onward_is (Moved (Ends v)) t e = absurd cc
+onward_is (Moved Full) t e = absurd cc
+onward_is (Asks effect) t e = absurd cc
+onward_is Joins t e = absurd cc
 
 module _ (joint : Bool) (P : ℕ) (bs : List ℕ) (nodes : ℕ) (t : Stand) (w : List ℕ) where
-  -- the site is over
-  pub row_over : (seat : Seat) → seat ≡ seat_of joint t w → OneOf (1 ∷ 2 ∷ []) (tag_of seat-type seat) → InRow joint P bs nodes t Over w w
-  row_over seat is h = record { did = λ s y e. absurd (let z : ◌≡◌ {A = ℕ} 0 1 = cc in omega arith); over = λ e. (subst IsOver is (over_tag seat h), refl) }
-
-  -- a step, and what was kept of where it led
-  pub row_did : (view : View) → view ≡ view_of joint P → (s : Stand) → Running s ≡ seat_of joint t w → (y : Advanced) (v : List ℕ) → Advances view bs nodes s y w v
-      → (o : Onward) (w' : List ℕ) → o ≡ leads (Did s y) → Kept joint o v w' → InRow joint P bs nodes t (Did s y) w w'
-  row_did view seen s sits y v a o w' is k =
-      let advanced : Advances (view_of joint P) bs nodes s y w v = subst (λ (x : View). Advances x bs nodes s y w v) seen a in
-      let kept : Kept joint (onward y) v w' = subst (λ (x : Onward). Kept joint x v w') is k in
-      record {
-        did = λ s' y' e.
-            let stand : s ≡ s' = cc in
-            let came : y ≡ y' = cc in
-            rw (sym stand, sym came) (sits, v, advanced, kept);
-        over = λ e. absurd (let z : ◌≡◌ {A = ℕ} 0 1 = cc in omega arith);
-      }
-
   -- one that led on
-  pub row_leads : (came : Came) (u : Stand) (w' : List ℕ) → To u ≡ leads came → InRow joint P bs nodes t came w w' → LeadsOn joint P bs nodes t u w w'
-  row_leads (Did s y) u w' e r =
-      let (sits, x, a, k) = r.did s y refl in
+  pub row_leads : (came : Option Did) (u : Stand) (w' : List ℕ) → Some u ≡ leads came → InRow joint P bs nodes t came w w' → LeadsOn joint P bs nodes t u w w'
+  row_leads (Some did) u w' e r =
       record {
-        stand = s;
-        sits = sits;
-        between = x;
-        advances = subst (λ (z : Advanced). Advances (view_of joint P) bs nodes s z w x) (onward_is y u e) a;
-        keeps = subst (λ (o : Onward). Kept joint o x w') (sym e) k;
+        stand = did.stand;
+        sits = r.sits;
+        between = r.between;
+        advances = subst (λ (z : Advanced). Advances (view_of joint P) bs nodes did.stand z w r.between) (onward_is did.came u e) r.advances;
+        keeps = subst (λ (o : Option Stand). Kept joint o r.between w') (sym e) r.keeps;
       }
-  row_leads Over u w' e r = absurd (let z : ◌≡◌ {A = ℕ} 0 1 = cc in omega arith)
+  row_leads None u w' e r = absurd cc
 
 -- ---- turns that led on
 module _ (joint : Bool) (ts bs : List ℕ) (nodes first : ℕ) (t : Stand) (w : List ℕ) where
@@ -142,14 +90,10 @@ back_length P xs ys fits long =
     let before : length (take (P * row_size) xs) ≡ P * row_size = length-take-le (P * row_size) xs (omega arith) in
     rw (length-append, length-append, length-drop, length-drop, before, long) (omega arith)
 
-module _ (joint : Bool) (ts bs : List ℕ) (nodes first : ℕ) (s : Stand) (x : List ℕ) (k P : ℕ) (turn : P ≡ whose joint ts (first + k)) (came : Came)
+module _ (joint : Bool) (ts bs : List ℕ) (nodes first : ℕ) (s : Stand) (x : List ℕ) (k P : ℕ) (turn : P ≡ whose joint ts (first + k)) (came : Option Did)
     (ys : List ℕ) (here : InRow joint P bs nodes s came (area_of P x) ys) (long : length ys ≡ row_size) where
-  -- the last turn
-  pub turn_last : AmongRows (whose joint ts (first + k)) (InRow joint (whose joint ts (first + k)) bs nodes s came) x (back row_size P x ys)
-  turn_last = subst (λ (p : ℕ). AmongRows p (InRow joint p bs nodes s came) x (back row_size P x ys)) turn (ys, here, long, refl)
-
   -- it led on; no more frames are down than there are levels for
-  pub turn_on : (t : Stand) (w : List ℕ) → Led joint ts bs nodes first k t w s x → (u : Stand) → To u ≡ leads came
+  pub turn_on : (t : Stand) (w : List ℕ) → Led joint ts bs nodes first k t w s x → (u : Stand) → Some u ≡ leads came
       → (u.depth.frames ≤ max_frames) × Led joint ts bs nodes first (k + 1) t w u (back row_size P x ys)
   turn_on t w h u to =
       let l : LeadsOn joint P bs nodes s u (area_of P x) ys = row_leads joint P bs nodes s (area_of P x) came u ys to here in (
@@ -190,24 +134,33 @@ module _ (bs : List ℕ) (nodes : ℕ) where
       let (led, long) = single_turn x h.1 (LeadsOn false 0 bs nodes s u) v a in
       (one_more Whole bs nodes t w k s u x v h.0 (single_move 0 s u x v led), long))
 
-  single_kept : (o : Onward) (w w' : List ℕ) → Kept false o w w' → w' ≡ w
-  single_kept (To u) w w' k = k.same refl
-  single_kept Not w w' k = k
+  single_kept : (o : Option Stand) (w w' : List ℕ) → Kept false o w w' → w' ≡ w
+  single_kept (Some u) w w' k = k.same refl
+  single_kept None w w' k = k
 
-  -- the last turn
+  -- the last turn, in the row that led there
+  far_last : (ts : List ℕ) (first : ℕ) (t : Stand) (most : ℕ) (r : Strode) (w w' : List ℕ) → length w ≡ row_size → StridesTo false ts bs nodes first t most r w w'
+      → (r.moves < most) × (u : Stand) × (v : List ℕ) × Moves Whole bs nodes r.moves t w u v × InRow false 0 bs nodes u r.came v w'
+  far_last ts first t most r w w' full goes =
+      let (few, u, v, led, last) = goes in
+      let (moves, long) = led_moves ts first t w full r.moves u v led in
+      (few, u, v, moves, (single_turn v long (InRow false 0 bs nodes u r.came) w' last).0)
+
+  -- it is a step: no seat is over
+  row_steps : (u : Stand) (v w' : List ℕ) (came : Option Did) → InRow false 0 bs nodes u came v w' → IsSome came
+  row_steps u v w' (Some did) row = refl
+  row_steps u v w' None row = absurd row.0
+
   module _ (ts : List ℕ) (first : ℕ) (t : Stand) (most : ℕ) (r : Strode) (w w' : List ℕ) (full : length w ≡ row_size) (goes : StridesTo false ts bs nodes first t most r w w') where
-    pub far_did : (s : Stand) (y : Advanced) → r.came ≡ Did s y → GoesFar Whole bs nodes t most (record { moves = r.moves; stand = s; came = y }) w w'
-    far_did s y is =
-        let (few, u, v, led, last) = goes in
-        let (moves, long) = led_moves ts first t w full r.moves u v led in
-        let (row, _) = single_turn v long (InRow false 0 bs nodes u r.came) w' last in
-        let (sits, x, a, k) = row.did s y is in
-        let here : s ≡ u = running_is s u sits in
-        (few, v, rw here moves, rw (single_kept (onward y) x w' k) a)
+    pub far_some : IsSome r.came
+    far_some =
+        let (few, u, v, moves, row) = far_last ts first t most r w w' full goes in
+        row_steps u v w' r.came row
 
-    -- it has no seat that is over
-    pub far_not_over : r.came ≡ Over → ⊥
-    far_not_over is =
-        let (few, u, v, led, last) = goes in
-        let (moves, long) = led_moves ts first t w full r.moves u v led in
-        ((single_turn v long (InRow false 0 bs nodes u r.came) w' last).0.over is).0
+    pub far_did : (did : Did) → r.came ≡ Some did → GoesFar Whole bs nodes t most (record { moves = r.moves; stand = did.stand; came = did.came }) w w'
+    far_did did is =
+        let (few, u, v, moves, row) = far_last ts first t most r w w' full goes in
+        let step : StepsInRow false 0 bs nodes u did v w' = subst (λ (x : Option Did). InRow false 0 bs nodes u x v w') is row in
+        let here : did.stand ≡ u = running_is did.stand u step.sits in
+        let same : w' ≡ step.between = single_kept (onward did.came) step.between w' step.keeps in
+        (few, v, rw here moves, subst (λ (x : List ℕ). Advances Whole bs nodes did.stand did.came v x) (sym same) step.advances)

@@ -1,6 +1,6 @@
 -- Steps one after the other as long as control just moves, by whoever's turn it is: in the joint run the turn list says whose, and each site keeps where
 -- it is in its own row; the single run is one row, and where it is stays at hand.
-use Rattle.std.specs.Prelude.{◌≡◌, Bool, true, false, cond, ℕ, zero, suc, ◌+◌, ◌*◌, ◌≤◌, ◌<◌, List, length, get_or}
+use Rattle.std.specs.Prelude.{◌≡◌, Bool, true, false, cond, ℕ, zero, suc, ◌+◌, ◌*◌, ◌≤◌, ◌<◌, List, Option, Some, None, length, get_or}
 use Rattle.rules.specs.declared.effects.View.{View}
 use Rattle.rules.specs.declared.effects.View.TheVariants.{Whole, Site}
 use Rattle.area.specs.Rows.{row_size, area_of, back}
@@ -12,10 +12,7 @@ use Rattle.seats.specs.declared.Seat.TheVariants.{Running}
 use Rattle.advance.specs.Advances.{Advances}
 use Rattle.advance.specs.declared.Advanced.{Advanced}
 use Rattle.advance.specs.declared.Advanced.TheVariants.{Moved, Asks, Joins}
-use Rattle.advance.specs.declared.strides.Came.{Came}
-use Rattle.advance.specs.declared.strides.Came.TheVariants.{Did, Over}
-use Rattle.advance.specs.declared.strides.Onward.{Onward}
-use Rattle.advance.specs.declared.strides.Onward.TheVariants.{To, Not}
+use Rattle.advance.specs.declared.strides.Did.{Did}
 use Rattle.advance.specs.declared.strides.Strode.{Strode}
 
 -- ---- whose turn it is, and where
@@ -42,26 +39,33 @@ pub record Keeps (joint : Bool) (t : Stand) (w w' : List ℕ) : Type 0 where
 -- ---- a turn
 
 -- where a step leads that another one may follow
-abbrev pub onward : Advanced → Onward
-onward (Moved (On t)) = To t
-onward (Moved (Ends v)) = Not
-onward (Moved Full) = Not
-onward (Asks effect) = Not
-onward Joins = Not
+abbrev pub onward : Advanced → Option Stand
+onward (Moved (On t)) = Some t
+onward (Moved (Ends v)) = None
+onward (Moved Full) = None
+onward (Asks effect) = None
+onward Joins = None
 
-abbrev pub leads : Came → Onward
-leads (Did s y) = onward y
-leads Over = Not
+abbrev pub leads : Option Did → Option Stand
+leads (Some did) = onward did.came
+leads None = None
 
 -- where a step led on is kept
-abbrev pub Kept : (joint : Bool) → Onward → (w w' : List ℕ) → Type 0
-Kept joint (To u) w w' = Keeps joint u w w'
-Kept joint Not w w' = w' ≡ w
+abbrev pub Kept : (joint : Bool) → Option Stand → (w w' : List ℕ) → Type 0
+Kept joint (Some u) w w' = Keeps joint u w w'
+Kept joint None w w' = w' ≡ w
 
--- a turn in the row w of P
-pub record InRow (joint : Bool) (P : ℕ) (bs : List ℕ) (nodes : ℕ) (t : Stand) (came : Came) (w w' : List ℕ) : Type 0 where
-  pub did : (s : Stand) (y : Advanced) → came ≡ Did s y → (Running s ≡ seat_of joint t w) × (x : List ℕ) × Advances (view_of joint P) bs nodes s y w x × Kept joint (onward y) x w'
-  pub over : came ≡ Over → IsOver (seat_of joint t w) × (w' ≡ w)
+-- a step in the row w of P, from where control stood
+pub record StepsInRow (joint : Bool) (P : ℕ) (bs : List ℕ) (nodes : ℕ) (t : Stand) (did : Did) (w w' : List ℕ) : Type 0 where
+  pub sits : Running did.stand ≡ seat_of joint t w
+  pub between : List ℕ
+  pub advances : Advances (view_of joint P) bs nodes did.stand did.came w between
+  pub keeps : Kept joint (onward did.came) between w'
+
+-- a turn in the row w of P: a step, or the site is over
+abbrev pub InRow : (joint : Bool) (P : ℕ) (bs : List ℕ) (nodes : ℕ) (t : Stand) → Option Did → (w w' : List ℕ) → Type 0
+InRow joint P bs nodes t (Some did) w w' = StepsInRow joint P bs nodes t did w w'
+InRow joint P bs nodes t None w w' = IsOver (seat_of joint t w) × (w' ≡ w)
 
 -- one that led on to u
 pub record LeadsOn (joint : Bool) (P : ℕ) (bs : List ℕ) (nodes : ℕ) (t u : Stand) (w w' : List ℕ) : Type 0 where

@@ -12,35 +12,21 @@ use limits::Party;
 use rules::effects::View;
 use seats::Seat;
 
-// What a turn comes to.
+// A step, and from where control stood.
 #[derive(Clone, Copy)]
-pub enum Came {
-    // from where control stood, a step
-    Did(Stand, Advanced),
-    // the site is over
-    Over,
+pub struct Did {
+    pub stand: Stand,
+    pub came: Advanced,
 }
 
 // Where a step leads that another one may follow.
-#[derive(Clone, Copy)]
-enum Onward {
-    To(Stand),
-    Not,
-}
-
-fn leads(came: Came) -> Onward
+fn leads(came: Option<Did>) -> Option<Stand>
     ensures { result ≡ leads came }
 {
-    let Came::Did(_, y) = came else {
-        return Onward::Not;
-    };
-    let Advanced::Moved(next) = y else {
-        return Onward::Not;
-    };
-    let Next::On(t) = next else {
-        return Onward::Not;
-    };
-    Onward::To(t)
+    match came?.came {
+        Advanced::Moved(Next::On(t)) => Some(t),
+        _ => None,
+    }
 }
 
 // Whose turn the j-th is.
@@ -82,31 +68,32 @@ fn keep(joint: bool, t: Stand, w: &mut [u8])
     }
 }
 
-// A turn in its own row. Where it led on, where control now stands is kept.
-fn in_row(joint: bool, t: Stand, p: u8, program: &[u8], nodes: usize, w: &mut [u8]) -> Came
+// A turn in its own row: a step, if the site is not over. Where it led on, where control now stands is kept.
+#[tactic(auto, using(crate::proofs::StrideLaws::running_few))]
+fn in_row(joint: bool, t: Stand, p: u8, program: &[u8], nodes: usize, w: &mut [u8]) -> Option<Did>
     requires { (t.depth.frames ≤ max_frames) × (row_size ≤ length w.old) × (nodes ≤ 1024) }
     ensures { InRow joint p program.now nodes t result w.old w.new }
 {
-    let Seat::Running(s) = seat_of(joint, t, w) else {
-        return Came::Over;
+    let Seat::Running(stand) = seat_of(joint, t, w) else {
+        return None;
     };
-    let y = once(view_of(joint, p), program, nodes, s, w);
-    let came = Came::Did(s, y);
-    let Onward::To(next) = leads(came) else {
-        return came;
-    };
-    keep(joint, next, w);
-    came
+    let came = once(view_of(joint, p), program, nodes, stand, w);
+    let did = Some(Did { stand, came });
+    if let Some(next) = leads(did) {
+        keep(joint, next, w);
+    }
+    did
 }
 
-// Some turns that led on, and what the one after them came to.
+// Some turns that led on, and the step of the one after them, if its site is not over.
 #[derive(Clone, Copy)]
 pub struct Strode {
     pub moves: u32,
-    pub came: Came,
+    pub came: Option<Did>,
 }
 
 // Turns from the first on, at most so many, as long as control just moves.
+#[tactic(auto, using(crate::proofs::StrideLaws::led_none, crate::proofs::StrideLaws::turn_on, crate::proofs::StrideLaws::row_there))]
 pub fn strides(
     joint: bool,
     turns: &[u8],
@@ -132,14 +119,13 @@ pub fn strides(
         let from = p as usize * ROW;
         let to = from + ROW;
         let came = in_row(joint, t, p, program, nodes, &mut work[from..to]);
-        let Onward::To(next) = leads(came) else {
-            return Strode { moves: k, came };
-        };
-        if k == last {
-            return Strode { moves: k, came };
+        match leads(came) {
+            Some(next) if k < last => {
+                t = next;
+                k += 1;
+            }
+            _ => return Strode { moves: k, came },
         }
-        t = next;
-        k += 1;
     }
 }
 
@@ -158,15 +144,11 @@ pub fn far(program: &[u8], nodes: usize, start: Stand, most: u32, w: &mut [u8]) 
 {
     let nobody = [0u8; 0];
     let strode = strides(false, &nobody, 0, program, nodes, start, most, w);
-    let moves = strode.moves;
-    let came = strode.came;
-    match came {
-        Came::Did(stand, came) => Gone { moves, stand, came },
-        // the single run has no seat that is over
-        Came::Over => Gone {
-            moves,
-            stand: start,
-            came: Advanced::Moved(Next::Full),
-        },
+    // the single run has no seat that is over
+    let did = strode.came.unwrap();
+    Gone {
+        moves: strode.moves,
+        stand: did.stand,
+        came: did.came,
     }
 }

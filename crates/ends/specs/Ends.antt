@@ -1,6 +1,6 @@
 -- The check of the turn list, the sites at the start, and whether all have finished, in the rules' terms.
-use Rattle.std.specs.Prelude.{◌≡◌, ℕ, ◌<◌, Bool, true, false, List, []}
-use Rattle.std.proofs.Math.Option.{Option, none, some}
+use Rattle.std.specs.Prelude.{◌≡◌, ℕ, ◌<◌, Bool, true, false, List, [], Option, Some, None}
+use Rattle.std.proofs.Math.Option.{Option as Option', none, some}
 use Rattle.rules.specs.Books.{Book}
 use Rattle.rules.specs.Names.{none_bound}
 use Rattle.rules.specs.Joint.{Sites, running, book_of, all_finished}
@@ -10,13 +10,11 @@ use Rattle.area.specs.declared.stand.Stand.{Stand}
 use Rattle.seats.specs.declared.Seat.{Seat}
 use Rattle.seats.specs.declared.Seat.TheVariants.{Running, Finished, Stopped}
 use Rattle.area.specs.Rows.{area_of}
-use Rattle.ends.specs.declared.BadTurn.{BadTurn}
-use Rattle.ends.specs.declared.BadTurn.TheVariants.{None, At}
 
 -- what the code's answer says
-abbrev pub found : BadTurn → Option ℕ
+abbrev pub found : Option ℕ → Option' ℕ
 found None = none
-found (At index) = some index
+found (Some index) = some index
 
 -- the site of an area has finished
 abbrev pub finished_seat : Seat → Bool

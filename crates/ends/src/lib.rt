@@ -10,32 +10,20 @@ ghost use Rattle.ends.specs.Ends.{found, finished_at, AllFirst, OpensOne, OpensA
 use area::stand::{ROW, Stand};
 use seats::Seat;
 
-#[derive(Clone, Copy)]
-pub enum BadTurn {
-    None,
-    // the index
-    At(usize),
-}
-
 // There are at most so many turns.
 const TURNS: usize = 65535;
 
-// The first turn that is of no party, or past the last that there may be.
-#[tactic(auto, using(crate::proofs::EndsLaws::turn_strange, crate::proofs::EndsLaws::turn_late))]
-pub fn bad_turn(turns: &[u8], n: u8) -> BadTurn
+// The index of the first turn that is of no party, or past the last that there may be.
+#[tactic(auto, using(crate::proofs::EndsLaws::turn_strange, crate::proofs::EndsLaws::turn_late, crate::proofs::EndsLaws::turn_good, crate::proofs::EndsLaws::turns_over))]
+pub fn bad_turn(turns: &[u8], n: u8) -> Option<usize>
     ensures { found result ≡ bad_turn_from n 0 turns.now }
 {
-    let mut j = 0;
-    while j < turns.len() {
-        if turns[j] >= n {
-            return BadTurn::At(j);
+    for (j, &turn) in turns.iter().enumerate() {
+        if turn >= n || j >= TURNS {
+            return Some(j);
         }
-        if j >= TURNS {
-            return BadTurn::At(j);
-        }
-        j += 1;
     }
-    BadTurn::None
+    None
 }
 
 // A site's own area at the start.
@@ -48,15 +36,14 @@ fn open_one(program: &[u8], nodes: usize, start: Stand, area: &mut [u8])
 }
 
 // The first site's area is copied to those of the n - 1 others.
+#[tactic(auto, using(crate::proofs::EndsLaws::first_one, crate::proofs::EndsLaws::first_more, crate::proofs::EndsLaws::first_all))]
 fn copy_first(n: u8, work: &mut [u8])
     requires { (n ≤ max_parties) × (n * row_size ≤ length work.old) }
     ensures { AllFirst n work.old work.new }
 {
-    let mut p: u8 = 1;
-    while p < n {
+    for p in 1..n {
         let to = (p as usize) * ROW;
         stretches::copy_within(work, 0, to, ROW);
-        p += 1;
     }
 }
 
@@ -73,18 +60,17 @@ pub fn open_all(program: &[u8], nodes: usize, start: Stand, n: u8, work: &mut [u
 }
 
 // All of n sites have finished.
+#[tactic(auto, using(crate::proofs::EndsLaws::finish_none, crate::proofs::EndsLaws::finish_all, crate::proofs::EndsLaws::finish_more))]
 pub fn all_finished(n: u8, work: &[u8]) -> bool
     requires { (n ≤ max_parties) × (n * row_size ≤ length work.now) }
     ensures { Finishes n result work.now }
 {
-    let mut p: u8 = 0;
-    while p < n {
+    for p in 0..n {
         let from = (p as usize) * ROW;
         let to = from + ROW;
         if !is_finished(&work[from..to]) {
             return false;
         }
-        p += 1;
     }
     true
 }

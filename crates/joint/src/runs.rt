@@ -11,7 +11,6 @@ ghost use Rattle.joint.specs.Runs.{AllBelow, RunsTurns, Drives, Is};
 
 use advance::strides::strides;
 use area::stand::{AREA, Stand};
-use ends::BadTurn;
 use inputs::counts_fit;
 use limits::Depth;
 use parties::sets::PartySet;
@@ -161,12 +160,12 @@ fn run_good(
     if !counts_fit(counts, n, inputs.len()) {
         return Answer::Refused(refusals::BAD_COUNTS, 0);
     }
-    match ends::bad_turn(turns, n) {
-        BadTurn::At(index) => Answer::Refused(refusals::BAD_TURN, index),
-        BadTurn::None => run_lent(
-            program, n, nodes, counts, inputs, turns, bytes, lengths, work,
-        ),
+    if let Some(index) = ends::bad_turn(turns, n) {
+        return Answer::Refused(refusals::BAD_TURN, index);
     }
+    run_lent(
+        program, n, nodes, counts, inputs, turns, bytes, lengths, work,
+    )
 }
 
 // The joint run of a program over a turn list. `bytes` are the records, side by side. A refused call changes nothing that was lent.

@@ -18,17 +18,16 @@ fn next_at(program: &[u8], at: usize) -> usize
 }
 
 // Writes the places of the first `nodes` nodes.
+#[tactic(auto, using(crate::proofs::PlaceLaws::place_small, crate::proofs::PlaceLaws::listing_end))]
 pub fn index(program: &[u8], nodes: usize, table: &mut [u8])
     requires { (nodes ≤ 1024) × (2 * nodes ≤ length table.old) }
     ensures { Tabled program.now nodes table.old table.new }
 {
     let mut at = 2;
-    let mut k = 0;
-    while k < nodes {
+    for k in 0..nodes {
         let place = at as u16;
         words::store2(table, 2 * k, place);
         at = next_at(program, at);
-        k += 1;
     }
 }
 

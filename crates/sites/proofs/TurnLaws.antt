@@ -8,6 +8,7 @@ use Rattle.std.specs.Prelude.{Option}
 use lib.IntN.{ℤ}
 use lib.ListN.{length, get_or, set, take, drop}
 use lib.Seq.{set-get_or, take_at, drop_at, length-take-le}
+use Rattle.std.specs.Prelude.{Option, Some, None}
 use Rattle.nodes.specs.Nodes.{joint_node, IsJoint}
 use Rattle.nodes.specs.declared.Node.{Node}
 use Rattle.nodes.specs.declared.JointNode.{JointNode}
@@ -38,8 +39,7 @@ use Rattle.advance.specs.Advances.{rule_of, rule_at, Advances}
 use Rattle.advance.specs.Strides.{onward, Kept, InRow, LeadsOn, AmongRows}
 use Rattle.advance.specs.declared.Advanced.{Advanced}
 use Rattle.advance.specs.declared.Advanced.TheVariants.{Moved, Asks, Joins}
-use Rattle.advance.specs.declared.strides.Came.{Came}
-use Rattle.advance.specs.declared.strides.Came.TheVariants.{Did, Over}
+use Rattle.advance.specs.declared.strides.Did.{Did}
 use Rattle.acts.specs.Acts.{Takes, Lands}
 use Rattle.acts.proofs.ActLaws.{lands_on, step_lands, acts_goes}
 use Rattle.site.proofs.OwnLaws.{owned, weighs_acts}
@@ -203,69 +203,59 @@ module _ (bs : List ℕ) (nodes P n room : ℕ) (is : List ℤ) (end at bytes le
 
   module _ (work : List ℕ) where
     -- the site is over
-    pub came_over : (came : Came) → came ≡ Over → TurnsCame bs nodes came P n room is end false at bytes lengths work at bytes lengths work
-    came_over came q =
+    pub came_over : TurnsCame bs nodes None P n room is end false at bytes lengths work at bytes lengths work
+    came_over =
         record {
-          comes = λ t w long (ys, stops, area, e).
-              let o = stops.over q in
+          comes = λ t w long (ys, o, area, e).
               let same : work ≡ w = e ∙ ap (λ (x : List ℕ). back row_size P w x) o.1 ∙ back_same row_size P w in
               rw same (turn_over bs nodes P n room is end at bytes lengths w o.0);
         }
 
-    module _ (came : Came) (s : Stand) (y : Advanced) (did : came ≡ Did s y) where
+    module _ (did : Did) where
       -- control moved
-      pub came_moved : (next : Next) (bytes' lengths' work' : List ℕ) → y ≡ Moved next → LandsRow next s.node P room bytes lengths work bytes' lengths' work' → P < length at
-          → TurnsCame bs nodes came P n room is end true at bytes lengths work at bytes' lengths' work'
+      pub came_moved : (next : Next) (bytes' lengths' work' : List ℕ) → did.came ≡ Moved next → LandsRow next did.stand.node P room bytes lengths work bytes' lengths' work' → P < length at
+          → TurnsCame bs nodes (Some did) P n room is end true at bytes lengths work at bytes' lengths' work'
       came_moved next bytes' lengths' work' q l place =
           record {
-            comes = λ t w long (ys, stops, area, e).
-                let d = stops.did s y did in
-                let x : List ℕ = d.1 in
+            comes = λ t w long (ys, d, area, e).
+                let s : Stand = did.stand in
+                let x : List ℕ = d.between in
                 let advances : Advances (View'.Site (record { index = P })) bs nodes s (Moved next) (area_of P w) x
-                = subst (λ (z : Advanced). Advances (View'.Site (record { index = P })) bs nodes s z (area_of P w) x) q d.2 in
+                = subst (λ (z : Advanced). Advances (View'.Site (record { index = P })) bs nodes s z (area_of P w) x) q d.advances in
                 let own : area_of P work ≡ ys = rw e (row_own row_size P w ys area long) in
                 let lands : Lands next s.node (get_or lengths P 0) (row room P bytes) x l.used l.own l.area
-                = lands_kept next s.node (get_or lengths P 0) (row room P bytes) x ys l.used l.own l.area (subst (λ (z : Advanced). Kept true (onward z) x ys) q d.3) (rw own at l.lands) in
+                = lands_kept next s.node (get_or lengths P 0) (row room P bytes) x ys l.used l.own l.area (subst (λ (z : Advanced). Kept true (onward z) x ys) q d.keeps) (rw own at l.lands) in
                 let areas : work' ≡ back row_size P w l.area = l.areas ∙ rw e (back_again row_size P w ys l.area area long) in
                 rw (l.records, l.counts, areas)
-                (turn_landed bs nodes P n room is end at bytes lengths w s d.0 next x advances l.used l.own l.area lands place long l.long);
+                (turn_landed bs nodes P n room is end at bytes lengths w s d.sits next x advances l.used l.own l.area lands place long l.long);
           }
 
       -- its rule asks for more than a move
-      pub came_asked : (effect : Effect) (at' bytes' lengths' work' : List ℕ) → y ≡ Asks effect → ActsAlone effect s P room is end at bytes lengths work at' bytes' lengths' work'
-          → TurnsCame bs nodes came P n room is end true at bytes lengths work at' bytes' lengths' work'
+      pub came_asked : (effect : Effect) (at' bytes' lengths' work' : List ℕ) → did.came ≡ Asks effect → ActsAlone effect did.stand P room is end at bytes lengths work at' bytes' lengths' work'
+          → TurnsCame bs nodes (Some did) P n room is end true at bytes lengths work at' bytes' lengths' work'
       came_asked effect at' bytes' lengths' work' q k =
           record {
-            comes = λ t w long (ys, stops, area, e).
-                let d = stops.did s y did in
-                let a = d.2.asks effect q in
-                let none : ys ≡ d.1 = subst (λ (z : Advanced). Kept true (onward z) d.1 ys) q d.3 in
+            comes = λ t w long (ys, d, area, e).
+                let a = d.advances.asks effect q in
+                let none : ys ≡ d.between = subst (λ (z : Advanced). Kept true (onward z) d.between ys) q d.keeps in
                 let same : work ≡ w = e ∙ ap (λ (x : List ℕ). back row_size P w x) (none ∙ a.2) ∙ back_same row_size P w in
-                turn_asked bs nodes P n room is end at bytes lengths w s d.0 effect a.0 a.3 at' bytes' lengths' work' (rw same at k);
+                turn_asked bs nodes P n room is end at bytes lengths w did.stand d.sits effect a.0 a.3 at' bytes' lengths' work' (rw same at k);
           }
 
       -- it stands at a node of a meeting
-      pub came_joined : (b : Bool) (at' bytes' lengths' work' : List ℕ) → y ≡ Joins → TurnsJoined bs nodes s P n room is end b at bytes lengths work at' bytes' lengths' work'
-          → TurnsCame bs nodes came P n room is end b at bytes lengths work at' bytes' lengths' work'
+      pub came_joined : (b : Bool) (at' bytes' lengths' work' : List ℕ) → did.came ≡ Joins → TurnsJoined bs nodes did.stand P n room is end b at bytes lengths work at' bytes' lengths' work'
+          → TurnsCame bs nodes (Some did) P n room is end b at bytes lengths work at' bytes' lengths' work'
       came_joined b at' bytes' lengths' work' q k =
           record {
-            comes = λ t w long (ys, stops, area, e).
-                let d = stops.did s y did in
-                let a = d.2.joins q in
-                let none : ys ≡ d.1 = subst (λ (z : Advanced). Kept true (onward z) d.1 ys) q d.3 in
+            comes = λ t w long (ys, d, area, e).
+                let a = d.advances.joins q in
+                let none : ys ≡ d.between = subst (λ (z : Advanced). Kept true (onward z) d.between ys) q d.keeps in
                 let same : work ≡ w = e ∙ ap (λ (x : List ℕ). back row_size P w x) (none ∙ a.1) ∙ back_same row_size P w in
-                let l : TurnsJoined bs nodes s P n room is end b at bytes lengths w at' bytes' lengths' work' = rw same at k in
-                l.comes d.0 a.0;
+                let l : TurnsJoined bs nodes did.stand P n room is end b at bytes lengths w at' bytes' lengths' work' = rw same at k in
+                l.comes d.sits a.0;
           }
 
 -- what a turn came to fits
-pub came_fits : (bs : List ℕ) (nodes P : ℕ) (came : Came) (t : Stand) (w x : List ℕ) → AmongRows P (InRow true P bs nodes t came) w x → Fits came
-came_fits bs nodes P (Did s (Moved next)) t w x (ys, stops, area, e) = subst DeepSeat (sym (stops.did s (Moved next) refl).0) (seat_deep (area_of P w))
-came_fits bs nodes P (Did s (Asks effect)) t w x (ys, stops, area, e) =
-    let d = stops.did s (Asks effect) refl in
-    (subst DeepSeat (sym d.0) (seat_deep (area_of P w)), (d.2.asks effect refl).1)
-came_fits bs nodes P (Did s Joins) t w x (ys, stops, area, e) = subst DeepSeat (sym (stops.did s Joins refl).0) (seat_deep (area_of P w))
-came_fits bs nodes P Over t w x h = tt
-
-pub fits_did : (came : Came) (s : Stand) (y z : Advanced) → came ≡ Did s y → y ≡ z → Fits came → Fits (Did s z)
-fits_did came s y z did q h = subst Fits (did ∙ ap (λ (x : Advanced). Did s x) q) h
+pub came_fits : (bs : List ℕ) (nodes P : ℕ) (came : Option Did) (t : Stand) (w x : List ℕ) → AmongRows P (InRow true P bs nodes t came) w x → Fits came
+came_fits bs nodes P (Some did) t w x (ys, d, area, e) = (subst DeepSeat (sym d.sits) (seat_deep (area_of P w)), λ effect q. (d.advances.asks effect q).1)
+came_fits bs nodes P None t w x h = tt

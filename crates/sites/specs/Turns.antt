@@ -1,8 +1,9 @@
 -- A turn in the lent bytes: from the sites that they hold to the sites after it, and whether it counts.
-use Rattle.std.specs.Prelude.{◌≡◌, ℕ, ◌+◌, ◌*◌, ◌≤◌, ◌<◌, Bool, true, List, ℤ, length, get_or, set}
+use Rattle.std.specs.Prelude.{◌≡◌, ℕ, ◌+◌, ◌*◌, ◌≤◌, ◌<◌, Bool, true, List, Option, Some, None, ℤ, length, get_or, set}
 use Rattle.limits.specs.Limits.{max_frames}
 use Rattle.nodes.specs.Nodes.{joint_node, IsJoint}
 use Rattle.rules.specs.Joint.{Sites, turn}
+use Rattle.rules.specs.declared.effects.Effect.{Effect}
 use Rattle.area.specs.Rows.{row_size, row, area_of, back}
 use Rattle.area.specs.declared.stand.Stand.{Stand}
 use Rattle.area.specs.declared.stand.Next.{Next}
@@ -11,9 +12,8 @@ use Rattle.seats.specs.declared.Seat.TheVariants.{Running}
 use Rattle.table.specs.Table.{node_by}
 use Rattle.advance.specs.Advances.{Asked}
 use Rattle.advance.specs.Strides.{InRow, AmongRows}
-use Rattle.advance.specs.declared.Advanced.TheVariants.{Moved, Asks, Joins}
-use Rattle.advance.specs.declared.strides.Came.{Came}
-use Rattle.advance.specs.declared.strides.Came.TheVariants.{Did, Over}
+use Rattle.advance.specs.declared.Advanced.TheVariants.{Asks}
+use Rattle.advance.specs.declared.strides.Did.{Did}
 use Rattle.acts.specs.Acts.{Lands}
 use Rattle.meets.specs.Places.{setting_of, Given, Stands, InputsStand}
 use Rattle.turn_steps.specs.Steps.{once}
@@ -41,13 +41,11 @@ pub record LandsRow (next : Next) (e P room : ℕ) (bytes lengths work bytes' le
   pub areas : work' ≡ back row_size P work area
 
 -- what a step can have come to: no more frames are down than there are levels for, and a rule asks for more than a move
-abbrev pub Fits : Came → Type 0
-Fits (Did t (Moved next)) = t.depth.frames ≤ max_frames
-Fits (Did t (Asks effect)) = (t.depth.frames ≤ max_frames) × Asked effect
-Fits (Did t Joins) = t.depth.frames ≤ max_frames
-Fits Over = Unit {0}
+abbrev pub Fits : Option Did → Type 0
+Fits (Some did) = (did.stand.depth.frames ≤ max_frames) × ((effect : Effect) → did.came ≡ Asks effect → Asked effect)
+Fits None = Unit {0}
 
 -- what is left to do of a turn of site P, which in the rows work₀ came to this
-pub record TurnsCame (bs : List ℕ) (nodes : ℕ) (came : Came) (P n room : ℕ) (is : List ℤ) (end : List ℕ) (r : Bool) (at bytes lengths work at' bytes' lengths' work' : List ℕ) : Type 0 where
+pub record TurnsCame (bs : List ℕ) (nodes : ℕ) (came : Option Did) (P n room : ℕ) (is : List ℤ) (end : List ℕ) (r : Bool) (at bytes lengths work at' bytes' lengths' work' : List ℕ) : Type 0 where
   pub comes : (t : Stand) (work₀ : List ℕ) → P * row_size + row_size ≤ length work₀ → AmongRows P (InRow true P bs nodes t came) work₀ work
       → Turns bs nodes P n room is end r at bytes lengths work₀ at' bytes' lengths' work'

@@ -7,7 +7,7 @@ ghost use Rattle.area.specs.Rows.{row_size};
 ghost use Rattle.sites.specs.Turns.{LandsRow, TurnsJoined, Fits, TurnsCame};
 
 use advance::Advanced;
-use advance::strides::Came;
+use advance::strides::Did;
 use area::stand::{Next, ROW, Stand};
 use limits::Party;
 use site::own::Own;
@@ -75,10 +75,11 @@ fn landed(
 }
 
 // What is left to do of a turn of site p, once the loop over moves is left: whether the turn counts.
+#[tactic(auto, using(crate::proofs::TurnLaws::came_over, crate::proofs::TurnLaws::came_asked, crate::proofs::TurnLaws::came_joined))]
 pub fn turn(
     program: &[u8],
     nodes: usize,
-    came: Came,
+    came: Option<Did>,
     p: u8,
     n: u8,
     room: usize,
@@ -92,20 +93,20 @@ pub fn turn(
     requires { (p < n) × (n ≤ max_parties) × (n * room ≤ length bytes.old) × (n ≤ length lengths.old) × (n * row_size ≤ length work.old) × (max_parties ≤ length at.old) × (max_parties ≤ length end.now) × Fits came }
     ensures { TurnsCame program.now nodes came p n room inputs.now end.now result at.old bytes.old lengths.old work.old at.new bytes.new lengths.new work.new }
 {
-    let Came::Did(t, y) = came else {
+    let Some(Did { stand, came }) = came else {
         return false;
     };
-    match y {
+    match came {
         Advanced::Moved(next) => {
-            landed(next, t.node, p, room, bytes, lengths, work);
+            landed(next, stand.node, p, room, bytes, lengths, work);
             true
         }
         Advanced::Asks(effect) => {
-            turn_steps::act_alone(effect, t, p, room, inputs, at, end, bytes, lengths, work);
+            turn_steps::act_alone(effect, stand, p, room, inputs, at, end, bytes, lengths, work);
             true
         }
         Advanced::Joins => joined(
-            program, nodes, t, p, n, room, inputs, at, end, bytes, lengths, work,
+            program, nodes, stand, p, n, room, inputs, at, end, bytes, lengths, work,
         ),
     }
 }
