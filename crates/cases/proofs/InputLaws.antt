@@ -3,7 +3,7 @@
 use mathlib.Core.Path.{◌≡◌, refl, sym, ap, ◌∙◌}
 use mathlib.Core.Bool.{Bool, true, false, ◌&&◌, and-false, cond}
 use mathlib.Core.List.{List}
-use mathlib.Core.Option.{none, some, map}
+use Rattle.std.specs.Prelude.{Some, None, option_map}
 use Prim.Native.Nat.{ℕ, ◌+◌, ◌-◌, ◌*◌, ◌≤◌, ◌<◌}
 use native.Mathlib.Omega.{arith}
 use lib.Dec.{eqb, leb}
@@ -13,11 +13,9 @@ use borrow.Author.Tests.{eq-eqb, ne_eqb, le-leb, lt-leb, eqb-true, leb-true}
 use Rattle.stretches.specs.Stretches.{stretch}
 use Rattle.words.specs.Words.{number_at}
 use Rattle.cases.specs.Rows.{numbers_at, integers_at, sum}
-use Rattle.cases.specs.Input.{max_input, layout_of, turn_count, fits, laid_out, case_at, parsed, told, counts_told}
+use Rattle.cases.specs.Input.{max_input, layout_of, turn_count, fits, laid_out, case_at, parsed}
 use Rattle.cases.specs.Placed.{Placed}
 use Rattle.cases.specs.declared.layout.Layout.{Layout}
-use Rattle.cases.specs.declared.layout.Parsed.{Parsed}
-use Rattle.cases.specs.declared.layout.Parsed.TheVariants.{Bad, Good}
 
 -- the places by the program's length p and the sum t of the counts
 abbrev pub places : List ℕ → (p t : ℕ) → Layout
@@ -34,25 +32,25 @@ places bs p t =
 
 module _ (bs : List ℕ) where
   -- ---- bad: more bytes than are taken, or not as many as the fields make up
-  pub too_many : max_input < length bs → none ≡ laid_out bs
+  pub too_many : max_input < length bs → None ≡ laid_out bs
   unfolding laid_out fits
   too_many h = rw (lt-leb (length bs) max_input h, and-false)
 
-  other_length : (length bs ≡ (layout_of bs).turns + turn_count (layout_of bs) bs → ⊥) → none ≡ laid_out bs
+  other_length : (length bs ≡ (layout_of bs).turns + turn_count (layout_of bs) bs → ⊥) → None ≡ laid_out bs
   unfolding laid_out fits
   other_length d = rw (ne_eqb (length bs) ((layout_of bs).turns + turn_count (layout_of bs) bs) d)
 
-  pub no_length : length bs < 2 → none ≡ laid_out bs
+  pub no_length : length bs < 2 → None ≡ laid_out bs
   unfolding layout_of
   no_length h = other_length (λ q. omega arith)
 
   -- p is the program's length as it was read
   module _ (p : ℕ) (e : p ≡ number_at 2 bs 0) where
-    pub no_program : length bs ≤ 2 + p → none ≡ laid_out bs
+    pub no_program : length bs ≤ 2 + p → None ≡ laid_out bs
     unfolding layout_of
     no_program h = other_length (λ q. omega arith)
 
-    pub no_counts : length bs < 2 + p + 1 + 2 * get_or bs (2 + p) 0 → none ≡ laid_out bs
+    pub no_counts : length bs < 2 + p + 1 + 2 * get_or bs (2 + p) 0 → None ≡ laid_out bs
     unfolding layout_of
     no_counts h = other_length (λ q. omega (arith, ap (λ (n : ℕ). get_or bs (2 + n) 0) e))
 
@@ -61,7 +59,7 @@ module _ (bs : List ℕ) where
       unfolding layout_of
       read_is = ap (λ (n : ℕ). places bs p n) s ∙ ap (λ (n : ℕ). places bs n (sum (numbers_at 2 (get_or bs (2 + n) 0) bs (2 + n + 1)))) e
 
-      pub no_turns : length bs < (places bs p t).turns → none ≡ laid_out bs
+      pub no_turns : length bs < (places bs p t).turns → None ≡ laid_out bs
       no_turns h = other_length (λ q. omega (arith, ap (λ (l : Layout). l.turns) read_is))
 
       -- m is the turn count as it was read
@@ -70,24 +68,24 @@ module _ (bs : List ℕ) where
         unfolding turn_count
         count_is = c ∙ ap (λ (l : Layout). number_at 2 bs (l.budget + 4)) read_is
 
-        pub other_turns : (length bs ≡ (places bs p t).turns + m → ⊥) → none ≡ laid_out bs
+        pub other_turns : (length bs ≡ (places bs p t).turns + m → ⊥) → None ≡ laid_out bs
         other_turns d = other_length (λ q. d (omega (arith, count_is, ap (λ (l : Layout). l.turns) read_is)))
 
-        pub good : length bs ≡ (places bs p t).turns + m → length bs ≤ max_input → some (places bs p t) ≡ laid_out bs
+        pub good : length bs ≡ (places bs p t).turns + m → length bs ≤ max_input → Some (places bs p t) ≡ laid_out bs
         unfolding laid_out fits
         good q h =
             let w : length bs ≡ (layout_of bs).turns + turn_count (layout_of bs) bs = omega (arith, count_is, ap (λ (l : Layout). l.turns) read_is) in
-            rw (eq-eqb (length bs) ((layout_of bs).turns + turn_count (layout_of bs) bs) w, le-leb (length bs) max_input h) (ap some read_is)
+            rw (eq-eqb (length bs) ((layout_of bs).turns + turn_count (layout_of bs) bs) w, le-leb (length bs) max_input h) (ap Some read_is)
 
 -- ---- what a caller knows of a good input
-pub fitting : (bs : List ℕ) (l : Layout) → some l ≡ laid_out bs → (l ≡ layout_of bs) × (length bs ≡ l.turns + turn_count l bs) × (length bs ≤ max_input)
+pub fitting : (bs : List ℕ) (l : Layout) → Some l ≡ laid_out bs → (l ≡ layout_of bs) × (length bs ≡ l.turns + turn_count l bs) × (length bs ≤ max_input)
 unfolding laid_out fits
 fitting bs l e = go (eqb (length bs) n) (leb (length bs) max_input) refl refl e
   where
     n : ℕ
     n = (layout_of bs).turns + turn_count (layout_of bs) bs
 
-    go : (s t : Bool) → eqb (length bs) n ≡ s → leb (length bs) max_input ≡ t → some l ≡ cond (s && t) (some (layout_of bs)) none
+    go : (s t : Bool) → eqb (length bs) n ≡ s → leb (length bs) max_input ≡ t → Some l ≡ cond (s && t) (Some (layout_of bs)) None
         → (l ≡ layout_of bs) × (length bs ≡ l.turns + turn_count l bs) × (length bs ≤ max_input)
     go true true p q h =
         let w : l ≡ layout_of bs = cc in
@@ -95,10 +93,9 @@ fitting bs l e = go (eqb (length bs) n) (leb (length bs) max_input) refl refl e
     go true false p q h = absurd (let z : ◌≡◌ {A = ℕ} 0 1 = cc in omega arith)
     go false t p q h = absurd (let z : ◌≡◌ {A = ℕ} 0 1 = cc in omega arith)
 
-pub placed : (bs : List ℕ) (r : Parsed) (l : Layout) → r ≡ Good l → told r ≡ laid_out bs → counts_told r ≤ 255 → Placed bs l
+pub placed : (bs : List ℕ) (l : Layout) → Some l ≡ laid_out bs → l.k ≤ 255 → Placed bs l
 unfolding layout_of parsed
-placed bs r l g e k =
-    let o : some l ≡ laid_out bs = sym (ap told g) ∙ e in
+placed bs l o few =
     let f = fitting bs l o in
     let end : l.end ≡ (layout_of bs).end = ap (λ (m : Layout). m.end) f.0 in
     let many : l.k ≡ (layout_of bs).k = ap (λ (m : Layout). m.k) f.0 in
@@ -111,31 +108,24 @@ placed bs r l g e k =
       few = f.2;
       starts = omega arith;
       program = omega arith;
-      few_counts = omega (arith, ap counts_told g);
+      few_counts = few;
       counts = omega arith;
       few_inputs = omega arith;
       inputs = omega arith;
       budget = omega arith;
       turns = sym f.1;
-      case = ap (map (case_at bs)) (sym o);
+      case = ap (option_map (case_at bs)) (sym o);
     }
 
 -- the case of lists that were filled from the places of the counts and the inputs, with the program up to its end and the turns up to the last byte
 pub loaded : (bs : List ℕ) (l : Layout) → Placed bs l → (n m : ℕ) (cs : List ℕ) (is : List ℤ) (b : ℕ) → n ≡ l.k → m ≡ l.total
     → cs ≡ numbers_at 2 n bs l.counts → is ≡ integers_at m bs l.inputs → b ≡ number_at 4 bs l.budget
-    → parsed bs ≡ some (record { program = stretch 2 (l.end - 2) bs; counts = cs; inputs = is; budget = b; turns = stretch l.turns (length bs - l.turns) bs })
+    → parsed bs ≡ Some (record { program = stretch 2 (l.end - 2) bs; counts = cs; inputs = is; budget = b; turns = stretch l.turns (length bs - l.turns) bs })
 unfolding case_at
 loaded bs l p n m cs is b en em ec ei eb =
     let t : length bs - l.turns ≡ turn_count l bs = omega (arith, p.turns) in
     rw (ec, ei, eb, en, em, t) p.case
 
-pub bad_input : (bs : List ℕ) (r : Parsed) → r ≡ Bad → told r ≡ laid_out bs → parsed bs ≡ none
+pub bad_input : (bs : List ℕ) → None ≡ laid_out bs → parsed bs ≡ None
 unfolding parsed
-bad_input bs r g e = ap (map (case_at bs)) (sym e ∙ ap told g)
-
--- the contract of `parse` allows one answer
-pub one_parsed : (r s : Parsed) → told r ≡ told s → r ≡ s
-one_parsed Bad Bad e = refl
-one_parsed Bad (Good l) e = absurd (let z : ◌≡◌ {A = ℕ} 0 1 = cc in omega arith)
-one_parsed (Good l) Bad e = absurd (let z : ◌≡◌ {A = ℕ} 0 1 = cc in omega arith)
-one_parsed (Good l) (Good m) e = ap Good (let z : l ≡ m = cc in z)
+bad_input bs o = ap (option_map (case_at bs)) (sym o)

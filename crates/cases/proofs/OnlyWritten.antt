@@ -2,7 +2,7 @@
 use mathlib.Core.Path.{◌≡◌, refl, sym, ap, ◌∙◌}
 use mathlib.Core.Bool.{Bool, true, false, cond}
 use mathlib.Core.List.{List, [], ◌∷◌, ◌++◌, append_assoc, append-nil}
-use mathlib.Core.Option.{Option, none, some, map}
+use Rattle.std.specs.Prelude.{Option, Some, None, option_map}
 use Prim.Native.Nat.{ℕ, zero, suc, ◌+◌, ◌-◌, ◌*◌, ◌/◌, ◌%◌, ◌^◌, ◌≤◌, ◌<◌}
 use native.Mathlib.Nat.{mul-zero, mul-suc, pow-suc}
 use native.Mathlib.Numerals.{add-one}
@@ -126,13 +126,13 @@ module _ (bs : List ℕ) (bytes : (i : ℕ) → get_or bs i 0 < 256) where
     unfolding input_bytes case_at
     case_bytes = rw (program_length, k_length, from_budget, from_inputs, from_counts, from_k, from_program, from_start)
 
-  pub only_written : (c : Case) → parsed bs ≡ some c → input_bytes c ≡ bs
+  pub only_written : (c : Case) → parsed bs ≡ Some c → input_bytes c ≡ bs
   unfolding parsed
   only_written c e = go (laid_out bs) refl e
     where
-      go : (o : Option Layout) → laid_out bs ≡ o → map (case_at bs) o ≡ some c → input_bytes c ≡ bs
-      go none q h = absurd (let z : ◌≡◌ {A = ℕ} 0 1 = cc in omega arith)
-      go (some m) q h =
+      go : (o : Option Layout) → laid_out bs ≡ o → option_map (case_at bs) o ≡ Some c → input_bytes c ≡ bs
+      go None q h = absurd (let z : ◌≡◌ {A = ℕ} 0 1 = cc in omega arith)
+      go (Some m) q h =
           let f = fitting bs m (sym q) in
           let g : c ≡ case_at bs (layout_of bs) = let u : c ≡ case_at bs m = cc in u ∙ ap (case_at bs) f.0 in
           let n : length bs ≡ (layout_of bs).turns + turn_count (layout_of bs) bs = f.1 ∙ ap (λ (x : Layout). x.turns + turn_count x bs) f.0 in

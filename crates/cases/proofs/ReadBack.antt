@@ -1,7 +1,7 @@
 -- What is written of a case is read back: every case that can be written is good, and is the one that is read. Assumes nothing.
 use mathlib.Core.Path.{◌≡◌, refl, sym, ap, ◌∙◌}
 use mathlib.Core.List.{List, [], ◌∷◌, ◌++◌, append_assoc}
-use mathlib.Core.Option.{some, map}
+use Rattle.std.specs.Prelude.{Some, option_map}
 use Prim.Native.Nat.{ℕ, ◌+◌, ◌-◌, ◌*◌, ◌^◌, ◌<◌}
 use native.Mathlib.Omega.{arith}
 use lib.ListN.{length, get_or, length-append}
@@ -129,10 +129,10 @@ module _ (c : Case) (w : Writable c) where
   turns_are : stretch (2 + length c.program + 1 + 2 * length c.counts + 4 * length c.inputs + 6) (length c.turns) bs ≡ c.turns
   turns_are = rw (split_turns, drop_at before_turns c.turns (2 + length c.program + 1 + 2 * length c.counts + 4 * length c.inputs + 6) length_turns) (take-length c.turns)
 
-  laid_out_lem : some (places bs (length c.program) (length c.inputs)) ≡ laid_out bs
+  laid_out_lem : Some (places bs (length c.program) (length c.inputs)) ≡ laid_out bs
   laid_out_lem =
       good bs (length c.program) program_length_is (length c.inputs) (rw (k_is, counts_are) (sym w.total)) (length c.turns) (rw k_is (sym turn_count_is)) (rw k_is whole) w.short
 
-  pub read_back : parsed (input_bytes c) ≡ some c
+  pub read_back : parsed (input_bytes c) ≡ Some c
   unfolding parsed case_at turn_count
-  read_back = ap (map (case_at bs)) (sym laid_out_lem) ∙ rw (k_is, program_is, counts_are, inputs_are, budget_is, turn_count_is, turns_are)
+  read_back = ap (option_map (case_at bs)) (sym laid_out_lem) ∙ rw (k_is, program_is, counts_are, inputs_are, budget_is, turn_count_is, turns_are)

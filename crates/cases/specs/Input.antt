@@ -1,14 +1,11 @@
 -- What the program `rehearse` reads (document 01, "Examples to hold against it"): "numbers low byte first: program length (2), program, k (1),
 -- k input counts (2 each), the inputs (4 each), budget (4), turn count (2), turns. It takes at most 8,192 bytes .. and prints `bad input` if
 -- bytes lack or remain, or there are more than that."
-use Rattle.std.specs.Prelude.{ℕ, ◌+◌, ◌-◌, ◌*◌, Bool, ◌&&◌, cond, List, eqb, leb, ℤ, length, get_or}
-use Rattle.std.proofs.Math.Option.{Option, none, some, map}
+use Rattle.std.specs.Prelude.{ℕ, ◌+◌, ◌-◌, ◌*◌, Bool, ◌&&◌, cond, List, eqb, leb, ℤ, length, get_or, Option, Some, None, option_map}
 use Rattle.stretches.specs.Stretches.{stretch}
 use Rattle.words.specs.Words.{number_at}
 use Rattle.cases.specs.Rows.{numbers_at, integers_at, sum}
 use Rattle.cases.specs.declared.layout.Layout.{Layout}
-use Rattle.cases.specs.declared.layout.Parsed.{Parsed}
-use Rattle.cases.specs.declared.layout.Parsed.TheVariants.{Bad, Good}
 
 pub record Case : Type 0 where
   pub program : List ℕ
@@ -50,9 +47,9 @@ turn_count l bs = number_at 2 bs (l.budget + 4)
 unfoldable pub fits : Layout → List ℕ → Bool
 fits l bs = eqb (length bs) (l.turns + turn_count l bs) && leb (length bs) max_input
 
--- where the fields of a good input stand; none is `bad input`
+-- where the fields of a good input stand; None is `bad input`
 unfoldable pub laid_out : List ℕ → Option Layout
-laid_out bs = cond (fits (layout_of bs) bs) (some (layout_of bs)) none
+laid_out bs = cond (fits (layout_of bs) bs) (Some (layout_of bs)) None
 
 -- the fields that stand at the places
 unfoldable pub case_at : List ℕ → Layout → Case
@@ -65,16 +62,6 @@ case_at bs l =
       turns = stretch l.turns (turn_count l bs) bs;
     }
 
--- what is read of the bytes; none is `bad input`
+-- what is read of the bytes; None is `bad input`
 unfoldable pub parsed : List ℕ → Option Case
-parsed bs = map (case_at bs) (laid_out bs)
-
--- what the code's answer says
-abbrev pub told : Parsed → Option Layout
-told Bad = none
-told (Good l) = some l
-
--- how many counts the code's answer tells of
-abbrev pub counts_told : Parsed → ℕ
-counts_told Bad = 0
-counts_told (Good l) = l.k
+parsed bs = option_map (case_at bs) (laid_out bs)

@@ -1,6 +1,5 @@
 -- What a caller knows of a good input's places: each lies within the bytes, and what stands there is what is read.
-use Rattle.std.specs.Prelude.{◌≡◌, List, ℕ, ◌+◌, ◌*◌, ◌≤◌, length}
-use Rattle.std.proofs.Math.Option.{some}
+use Rattle.std.specs.Prelude.{◌≡◌, List, ℕ, ◌+◌, ◌*◌, ◌≤◌, length, Some}
 use Rattle.cases.specs.Input.{max_input, turn_count, case_at, parsed}
 use Rattle.cases.specs.declared.layout.Layout.{Layout}
 
@@ -15,4 +14,4 @@ pub record Placed (bs : List ℕ) (l : Layout) : Type 0 where
   pub inputs : l.inputs + 4 * l.total ≤ length bs
   pub budget : l.budget + 4 ≤ length bs
   pub turns : l.turns + turn_count l bs ≡ length bs
-  pub case : parsed bs ≡ some (case_at bs l)
+  pub case : parsed bs ≡ Some (case_at bs l)

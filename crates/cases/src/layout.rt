@@ -1,8 +1,8 @@
 // Where each field of what `rehearse` reads stands: program length (2), program, k (1), k counts (2 each), inputs (4 each), budget (4),
 // turn count (2), turns. The input is bad if bytes lack or remain, or there are more than 8,192.
-ghost use Rattle.std.specs.Prelude.{◌≡◌, ◌+◌, ◌*◌, ◌≤◌, length};
+ghost use Rattle.std.specs.Prelude.{◌≡◌, ◌+◌, ◌*◌, ◌≤◌, length, IfSome};
 ghost use Rattle.cases.specs.Rows.{numbers_at, sum};
-ghost use Rattle.cases.specs.Input.{told, laid_out, counts_told};
+ghost use Rattle.cases.specs.Input.{laid_out};
 
 // Where the fields stand.
 #[derive(Clone, Copy)]
@@ -21,12 +21,6 @@ pub struct Layout {
     pub turns: usize,
 }
 
-#[derive(Clone, Copy)]
-pub enum Parsed {
-    Bad,
-    Good(Layout),
-}
-
 impl Layout {
     // At most so many bytes are read.
     pub const MAX: usize = 8192;
@@ -38,45 +32,36 @@ fn sum_of(text: &[u8], at: usize, k: usize) -> usize
     ensures { (result ≡ sum (numbers_at 2 k text.now at)) × (result ≤ 65535 * k) }
 {
     let mut s = 0;
-    let mut i = 0;
-    while i < k {
+    for i in 0..k {
         s += words::load2(text, at + 2 * i) as usize;
-        i += 1;
     }
     s
 }
 
 // One pass over the bytes: each field is read once it is known to be there.
-pub fn parse(text: &[u8]) -> Parsed
-    ensures { (told result ≡ laid_out text.now) × (counts_told result ≤ 255) }
+pub fn parse(text: &[u8]) -> Option<Layout>
+    ensures laid_out { result ≡ laid_out text.now }
+    ensures few_counts { IfSome result (λ l. l.k ≤ 255) }
 {
     let size = text.len();
-    if Layout::MAX < size {
-        return Parsed::Bad;
-    }
-    if size < 2 {
-        return Parsed::Bad;
+    if size < 2 || Layout::MAX < size {
+        return None;
     }
     let end = 2 + words::load2(text, 0) as usize;
-    if size <= end {
-        return Parsed::Bad;
-    }
-    let k = text[end] as usize;
+    let k = *text.get(end)? as usize;
     let counts = end + 1;
     let inputs = counts + 2 * k;
     if size < inputs {
-        return Parsed::Bad;
+        return None;
     }
     let total = sum_of(text, counts, k);
     let budget = inputs + 4 * total;
     let turns = budget + 6;
-    if size < turns {
-        return Parsed::Bad;
+    let left = size.checked_sub(turns)?;
+    if left != words::load2(text, budget + 4) as usize {
+        return None;
     }
-    if size - turns != words::load2(text, budget + 4) as usize {
-        return Parsed::Bad;
-    }
-    Parsed::Good(Layout {
+    Some(Layout {
         end,
         k,
         counts,

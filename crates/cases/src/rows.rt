@@ -7,10 +7,8 @@ pub fn load_counts(text: &[u8], at: usize, counts: &mut [usize])
     requires { at + 2 * length counts.old ≤ length text.now }
     ensures { counts.new ≡ numbers_at 2 (length counts.old) text.now at }
 {
-    let mut i = 0;
-    while i < counts.len() {
-        counts[i] = words::load2(text, at + 2 * i) as usize;
-        i += 1;
+    for (i, count) in counts.iter_mut().enumerate() {
+        *count = words::load2(text, at + 2 * i) as usize;
     }
 }
 
@@ -19,9 +17,7 @@ pub fn load_inputs(text: &[u8], at: usize, inputs: &mut [i32])
     requires { at + 4 * length inputs.old ≤ length text.now }
     ensures { inputs.new ≡ integers_at (length inputs.old) text.now at }
 {
-    let mut i = 0;
-    while i < inputs.len() {
-        inputs[i] = words::load_integer(text, at + 4 * i);
-        i += 1;
+    for (i, input) in inputs.iter_mut().enumerate() {
+        *input = words::load_integer(text, at + 4 * i);
     }
 }

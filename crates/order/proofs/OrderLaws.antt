@@ -1,35 +1,29 @@
--- `begins` from an index on, the order that its two answers give, and the part that is handed back. Assumes nothing.
+-- `begins` as the library tests it, the order that its two answers give, and the part that is handed back. Assumes nothing.
 use mathlib.Core.Path.{◌≡◌, refl, sym, ap, ◌∙◌}
-use mathlib.Core.Bool.{Bool, true, false, cond}
-use mathlib.Core.List.{List}
-use Prim.Native.Nat.{ℕ, ◌+◌, ◌-◌, ◌≤◌, ◌<◌}
-use native.Mathlib.Numerals.{add-one}
+use mathlib.Core.Bool.{Bool, true, false, cond, ◌&&◌}
+use lib.Dec.{eqb}
+use Rattle.std.specs.List.{starts_with}
+use mathlib.Core.List.{List, [], ◌∷◌}
+use Prim.Native.Nat.{ℕ, ◌+◌, ◌-◌, ◌≤◌}
 use native.Mathlib.Nat.{le_of_eq, add_comm}
 use denote.Ref.{Bor}
-use lib.ListN.{length, get_or, take, drop, length-drop, drop_of_length-le}
-use lib.Seq.{drop-cons, take_all}
-use borrow.Author.Tests.{eq-eqb, ne_eqb}
+use lib.ListN.{length, take, drop, length-drop}
+use lib.Seq.{take_all}
 use Rattle.order.specs.Order.{begins, order_of, beyond, continued, onward, placed, Continues}
 use Rattle.order.specs.BeginsLaws.{begins_le}
 use Rattle.order.specs.declared.Order.{Order}
 use Rattle.order.specs.declared.Order.TheVariants.{FirstLonger, SecondLonger, Equal, Neither}
 
-module _ (a b : List ℕ) (i : ℕ) where
-  pub at_end : length a ≤ i → begins (drop i a) (drop i b) ≡ true
-  unfolding begins
-  at_end h = rw (drop_of_length-le a h)
-
-  pub too_short : i < length a → length b ≤ i → begins (drop i a) (drop i b) ≡ false
-  unfolding begins
-  too_short h k = rw (drop-cons a i 0 h, drop_of_length-le b k)
-
-  pub differs : i < length a → i < length b → (get_or a i 0 ≡ get_or b i 0 → ⊥) → begins (drop i a) (drop i b) ≡ false
-  unfolding begins
-  differs h k d = rw (drop-cons a i 0 h, drop-cons b i 0 k, ne_eqb (get_or a i 0) (get_or b i 0) d)
-
-  pub agrees : i < length a → i < length b → get_or a i 0 ≡ get_or b i 0 → begins (drop i a) (drop i b) ≡ begins (drop (i + 1) a) (drop (i + 1) b)
-  unfolding begins
-  agrees h k e = rw (add-one i, drop-cons a i 0 h, drop-cons b i 0 k, eq-eqb (get_or a i 0) (get_or b i 0) e)
+-- the library's test of a slice's start
+pub begins_is : (xs ys : List ℕ) → begins xs ys ≡ starts_with eqb ys xs
+unfolding begins
+begins_is [] ys = refl
+begins_is (x ∷ xs) [] = refl
+begins_is (x ∷ xs) (y ∷ ys) = rw (begins_is xs ys) (both (eqb x y) (starts_with eqb ys xs))
+  where
+    both : (s t : Bool) → cond s t false ≡ s && t
+    both true t = refl
+    both false t = refl
 
 -- which of the two answers of `begins` an order tells
 abbrev Begun : Order → Bool → Bool → Type 0
@@ -44,12 +38,7 @@ begun true false = refl
 begun false true = refl
 begun false false = tt
 
--- the order that two answers of `begins` give
 module _ (xs ys : List ℕ) where
-  pub order_is : (f s : Bool) → f ≡ begins ys xs → s ≡ begins xs ys → cond f (cond s Equal FirstLonger) (cond s SecondLonger Neither) ≡ order_of xs ys
-  unfolding order_of
-  order_is f s ef es = rw (ef, es)
-
   order_begun : Begun (order_of xs ys) (begins ys xs) (begins xs ys)
   unfolding order_of
   order_begun = begun (begins ys xs) (begins xs ys)

@@ -2,7 +2,7 @@
 #![tactic(auto)]
 
 ghost use Rattle.std.specs.Prelude.{◌≡◌};
-ghost use Rattle.order.specs.Order.{begins, order_of, Continues};
+ghost use Rattle.order.specs.Order.{order_of, Continues};
 
 #[derive(Clone, Copy)]
 pub enum Order {
@@ -12,38 +12,16 @@ pub enum Order {
     Neither,
 }
 
-// Whether a stands at the start of b.
-fn starts(a: &[u8], b: &[u8]) -> bool
-    ensures { result ≡ begins a.now b.now }
-{
-    let mut i = 0;
-    while i < a.len() {
-        if b.len() <= i {
-            return false;
-        }
-        if a[i] != b[i] {
-            return false;
-        }
-        i += 1;
-    }
-    true
-}
-
+#[tactic(auto, using(crate::proofs::OrderLaws::begins_is), unfolding(crate::specs::Order::order_of))]
 pub fn order_of(a: &[u8], b: &[u8]) -> Order
     ensures { result ≡ order_of a.now b.now }
 {
-    let f = starts(b, a);
-    let s = starts(a, b);
-    if f {
-        if s {
-            return Order::Equal;
-        }
-        return Order::FirstLonger;
+    match (a.starts_with(b), b.starts_with(a)) {
+        (true, true) => Order::Equal,
+        (true, false) => Order::FirstLonger,
+        (false, true) => Order::SecondLonger,
+        (false, false) => Order::Neither,
     }
-    if s {
-        return Order::SecondLonger;
-    }
-    Order::Neither
 }
 
 // What the longer has beyond the shorter, as that part of the lent bytes.

@@ -44,9 +44,9 @@ pub lines_more : (n : ℕ) (rs ls x y z : List ℕ) (P a b c : ℕ) → Puts (li
 unfolding party_lines
 lines_more n rs ls x y z P a b c p q = rw add-one (puts_then p q)
 
-pub lines_all : (n : ℕ) (rs ls x y : List ℕ) (P a b : ℕ) → P ≤ n → n ≤ P → Puts (lines_below n rs ls P) a b x y → Puts (record_lines n (unanswered rs ls)) a b x y
+pub lines_all : (n : ℕ) (rs ls x y : List ℕ) (P a b : ℕ) → P ≡ n → Puts (lines_below n rs ls P) a b x y → Puts (record_lines n (unanswered rs ls)) a b x y
 unfolding record_lines
-lines_all n rs ls x y P a b h k p = let e : P ≡ n = omega arith in rw e at p
+lines_all n rs ls x y P a b e p = rw e at p
 
 module _ (n : ℕ) (rs ls : List ℕ) (fit : Fit n rs ls) where
   all_inside : n * (length rs / n) ≤ length rs

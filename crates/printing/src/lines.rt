@@ -41,12 +41,10 @@ fn put_records(n: u8, records: &[u8], lengths: &[usize], out: &mut [u8], at: usi
 {
     let parties = n as usize;
     let mut to = at;
-    let mut party: usize = 0;
-    while party < parties {
+    for party in 0..parties {
         let start = party * (records.len() / parties);
         let end = start + lengths[party];
         to = put_party(party, &records[start..end], out, to);
-        party += 1;
     }
     to
 }

@@ -2,7 +2,7 @@
 use mathlib.Core.Path.{◌≡◌, ◌∙◌}
 use Prim.Native.Nat.{ℕ, ◌*◌, ◌≤◌}
 use mathlib.Core.List.{List}
-use mathlib.Core.Option.{none, some}
+use Rattle.std.specs.Prelude.{Some, None}
 use native.Mathlib.Omega.{arith}
 use lib.IntN.{ℤ}
 use lib.ListN.{length, length-replicate}
@@ -85,10 +85,10 @@ both_put program counts inputs budget turns l r₁ l₁ w₁ r₂ l₂ w₂ e₁
     record { puts = puts_then s t; short = omega (arith, p.short, q.short) }
 
 -- ---- the input
-pub good_put : (l : Lending) (bs : List ℕ) (c : Case) {most a b : ℕ} {x y : List ℕ} → parsed bs ≡ some c → PutsAtMost most (shown_case l c) a b x y → PutsAtMost most (shown l bs) a b x y
+pub good_put : (l : Lending) (bs : List ℕ) (c : Case) {most a b : ℕ} {x y : List ℕ} → parsed bs ≡ Some c → PutsAtMost most (shown_case l c) a b x y → PutsAtMost most (shown l bs) a b x y
 unfolding shown
 good_put l bs c e p = rw e p
 
-pub bad_put : (l : Lending) (bs : List ℕ) {a b : ℕ} {x y : List ℕ} → parsed bs ≡ none → Puts (ascii "bad input\n") a b x y → PutsAtMost (2 * most_of_one) (shown l bs) a b x y
+pub bad_put : (l : Lending) (bs : List ℕ) {a b : ℕ} {x y : List ℕ} → parsed bs ≡ None → Puts (ascii "bad input\n") a b x y → PutsAtMost (2 * most_of_one) (shown l bs) a b x y
 unfolding shown ascii
 bad_put l bs e p = rw e (record { puts = p; short = omega (arith, p.end) })

@@ -1,6 +1,5 @@
 -- All that `rehearse` prints for an input: `bad input`, or the lines of the single run and then those of the joint run.
-use Rattle.std.specs.Prelude.{ℕ, List, ◌++◌, ℤ, replicate}
-use Rattle.std.proofs.Math.Option.{Option, none, some}
+use Rattle.std.specs.Prelude.{ℕ, List, ◌++◌, ℤ, replicate, Option, Some, None}
 use Rattle.program.specs.Answer.{CheckAnswer, accepted, refused, check_answer}
 use Rattle.rules.specs.Lent.{Lent}
 use Rattle.rules.specs.Calls.{single_call, joint_call}
@@ -40,8 +39,8 @@ shown_case l c =
     ++ joint_printed (filled c.program c.counts c.inputs l.records l.lengths l.joint) c.turns
 
 abbrev pub shown_of : Lending → Option Case → List ℕ
-shown_of l none = ascii "bad input\n"
-shown_of l (some c) = shown_case l c
+shown_of l None = ascii "bad input\n"
+shown_of l (Some c) = shown_case l c
 
 unfoldable pub shown : Lending → List ℕ → List ℕ
 shown l bs = shown_of l (parsed bs)

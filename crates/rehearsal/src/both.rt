@@ -6,7 +6,7 @@ ghost use Rattle.rehearsal.specs.Both.{parties_of, filled, single_printed, joint
 ghost use Rattle.printing.specs.Shown.{max_records, most_of_one};
 ghost use Rattle.rehearsal.specs.Spaces.{Filled, Holds, Exact, Rows, PutsAtMost};
 
-use cases::layout::{Layout, Parsed};
+use cases::layout::Layout;
 use cases::lending::Lending;
 
 // The parties of a good program, or 0.
@@ -23,9 +23,9 @@ fn parties_of(program: &[u8]) -> u8
 fn fill(records: &mut [u8], lengths: &mut [usize], work: &mut [u8])
     ensures { Filled records.old lengths.old work.old records.new lengths.new work.new }
 {
-    cases::fills::fill_bytes(records, 0xaa);
-    cases::fills::fill_places(lengths, 7);
-    cases::fills::fill_bytes(work, 0x55);
+    records.fill(0xaa);
+    lengths.fill(7);
+    work.fill(0x55);
 }
 
 // The lines of the single run, in all that is lent.
@@ -164,25 +164,21 @@ fn show_text(
     requires { (255 ≤ length counts.old) × (2048 ≤ length inputs.old) × Exact lending records.old lengths.old × Holds lending records.old lengths.old work.old out.old at }
     ensures { PutsAtMost (2 * most_of_one) (shown lending text.now) at result out.old out.new }
 {
-    match cases::layout::parse(text) {
-        Parsed::Bad => text::plain::put(out, at, b"bad input\n"),
-        Parsed::Good(layout) => {
-            let k = layout.k;
-            let total = layout.total;
-            show_case(
-                text,
-                layout,
-                lending,
-                &mut counts[..k],
-                &mut inputs[..total],
-                records,
-                lengths,
-                work,
-                out,
-                at,
-            )
-        }
-    }
+    let Some(layout) = cases::layout::parse(text) else {
+        return text::plain::put(out, at, b"bad input\n");
+    };
+    show_case(
+        text,
+        layout,
+        lending,
+        &mut counts[..layout.k],
+        &mut inputs[..layout.total],
+        records,
+        lengths,
+        work,
+        out,
+        at,
+    )
 }
 
 // What is printed for the input `text` under a lending, put at a place of `out`; its end there. The records, lengths and working bytes are lent to the runs.

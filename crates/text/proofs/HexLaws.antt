@@ -5,7 +5,7 @@ use mathlib.Core.List.{List, [], ◌∷◌}
 use native.Mathlib.Numerals.{add-one}
 use native.Mathlib.Omega.{arith}
 use lib.ListN.{length, get_or, set, take}
-use lib.Seq.{length-take-le, take-suc, take_all}
+use lib.Seq.{length-take-le, take-suc}
 use Rattle.text.specs.Text.{ascii, hex_digit, hex, spaced, Puts}
 use Rattle.text.specs.TextLaws.{hex_length, hex_append, puts_then, spaced_some}
 
@@ -18,10 +18,6 @@ pub hex_more : (bs x y : List ℕ) (a to i : ℕ) → i < length bs → Puts (he
     → Puts (hex (take (i + 1) bs)) a (to + 2) x (set (set y to (hex_digit (get_or bs i 0 / 16))) (to + 1) (hex_digit (get_or bs i 0 % 16)))
 unfolding hex
 hex_more bs x y a to i h p = rw (add-one i, take-suc bs i 0, hex_append (take i bs) (get_or bs i 0 ∷ [])) (puts_then p (record { end = refl; bytes = rw add-one }))
-
--- all of them
-pub hex_put : (bs x y : List ℕ) (a to i : ℕ) → length bs ≤ i → Puts (hex (take i bs)) a to x y → Puts (hex bs) a to x y
-hex_put bs x y a to i k p = rw (take_all i bs) at p
 
 -- bytes after a space
 pub spaced_bytes : (bs x y z : List ℕ) (a b c : ℕ) → (length bs ≡ 0 → ⊥) → Puts (32 ∷ []) a b x y → Puts (hex bs) b c y z → Puts (spaced bs) a c x z

@@ -1,3 +1,2 @@
-pub mod WordLaws
 pub mod DecimalLaws
 pub mod HexLaws

@@ -14,13 +14,10 @@ pub fn put_hex(out: &mut [u8], at: usize, bytes: &[u8]) -> usize
     ensures { Puts (hex bytes.now) at result out.old out.new }
 {
     let mut to = at;
-    let mut i = 0;
-    while i < bytes.len() {
-        let b = bytes[i];
+    for &b in bytes {
         out[to] = digit(b / 16);
         out[to + 1] = digit(b % 16);
         to += 2;
-        i += 1;
     }
     to
 }

@@ -14,24 +14,25 @@ use Rattle.words.proofs.WordLaws.{number_same}
 use Rattle.refusals.specs.Numbers.{not_an_event}
 use Rattle.walk.specs.Walk.{is_event_kind, body_width, width_of, event_from, is_whole, event, end, refused, step_answer}
 use Rattle.records.specs.declared.events.Event.{Event}
-use Rattle.walk.specs.declared.Width.TheVariants.{Known, Unknown}
+use Rattle.std.specs.Prelude.{Some, None}
+use Rattle.std.proofs.lemmas.Option.{cond_some}
 
 -- ---- the width of a kind
 pub key : (n k : ℕ) → k ≡ n → width_of n ≡ width_of k
 key n k e = ap width_of (sym e)
 
-pub one_or_two : (k : ℕ) → 1 ≤ k → k < 3 → Known 4 ≡ width_of k
+pub one_or_two : (k : ℕ) → 1 ≤ k → k < 3 → Some 4 ≡ width_of k
 unfolding width_of body_width
 one_or_two zero h l = absurd (omega arith)
 one_or_two (suc zero) h l = refl
 one_or_two (suc (suc zero)) h l = refl
 one_or_two (suc (suc (suc k))) h l = absurd (omega arith)
 
-pub below_one : (k : ℕ) → k < 1 → Unknown ≡ width_of k
+pub below_one : (k : ℕ) → k < 1 → None ≡ width_of k
 unfolding width_of
 below_one k h = rw (lt-leb 1 k h)
 
-pub above_seven : (k : ℕ) → 7 < k → Unknown ≡ width_of k
+pub above_seven : (k : ℕ) → 7 < k → None ≡ width_of k
 unfolding width_of
 above_seven k h = rw (le-leb 1 k (omega arith), lt-leb k 7 h)
 
@@ -40,19 +41,15 @@ pub record IsKnown (k n : ℕ) : Type 0 where
   pub width : n ≡ body_width k
 
 module _ (k : ℕ) where
-  pub known : (n : ℕ) → Known n ≡ width_of k → IsKnown k n
+  pub known : (n : ℕ) → Some n ≡ width_of k → IsKnown k n
   unfolding width_of
-  known n e = go (is_event_kind k) refl e
-    where
-      go : (t : Bool) → is_event_kind k ≡ t → Known n ≡ cond t (Known (body_width k)) Unknown → IsKnown k n
-      go true q e = record { kind = q; width = cc }
-      go false q e = absurd (let z : ◌≡◌ {A = ℕ} 0 1 = cc in omega arith)
+  known n e = let c = cond_some (is_event_kind k) (body_width k) n (sym e) in record { kind = c.0; width = sym c.1 }
 
-  unknown : Unknown ≡ width_of k → is_event_kind k ≡ false
+  unknown : None ≡ width_of k → is_event_kind k ≡ false
   unfolding width_of
   unknown e = go (is_event_kind k) e
     where
-      go : (t : Bool) → Unknown ≡ cond t (Known (body_width k)) Unknown → t ≡ false
+      go : (t : Bool) → None ≡ cond t (Some (body_width k)) None → t ≡ false
       go true e = absurd (let z : ◌≡◌ {A = ℕ} 0 1 = cc in omega arith)
       go false e = refl
 
@@ -74,17 +71,17 @@ module _ (xs : List ℕ) (at : ℕ) where
     unfolding step_answer
     bad e = rw (lt-leb (length xs) at h, e)
 
-    pub of_no_kind : Unknown ≡ width_of (get_or xs at 0) → refused not_an_event at ≡ step_answer xs at
+    pub of_no_kind : None ≡ width_of (get_or xs at 0) → refused not_an_event at ≡ step_answer xs at
     unfolding is_whole
     of_no_kind e = bad (rw (unknown (get_or xs at 0) e))
 
-    pub cut : (n : ℕ) → Known n ≡ width_of (get_or xs at 0) → length xs - (at + 1) < n → refused not_an_event at ≡ step_answer xs at
+    pub cut : (n : ℕ) → Some n ≡ width_of (get_or xs at 0) → length xs - (at + 1) < n → refused not_an_event at ≡ step_answer xs at
     unfolding is_whole
     cut n e l =
         let w = known (get_or xs at 0) n e in
         bad (rw (w.kind, lt-leb (body_width (get_or xs at 0)) (length (drop (at + 1) xs)) (rw (length-drop, ← w.width) l)))
 
-    pub whole : (n : ℕ) (e : Event) → Known n ≡ width_of (get_or xs at 0) → n ≤ length xs - (at + 1) → e ≡ event_from (get_or xs at 0) (drop (at + 1) xs)
+    pub whole : (n : ℕ) (e : Event) → Some n ≡ width_of (get_or xs at 0) → n ≤ length xs - (at + 1) → e ≡ event_from (get_or xs at 0) (drop (at + 1) xs)
         → event e (at + 1 + n) ≡ step_answer xs at
     unfolding is_whole step_answer
     whole n e k l ee =

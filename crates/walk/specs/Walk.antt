@@ -1,13 +1,11 @@
 -- "A record is walked event by event" (document 01, "Site records").
-use Rattle.std.specs.Prelude.{ℕ, zero, suc, ◌+◌, Bool, ◌&&◌, cond, List, [], ◌∷◌, leb, length, get_or, drop}
+use Rattle.std.specs.Prelude.{ℕ, zero, suc, ◌+◌, Bool, ◌&&◌, cond, List, [], ◌∷◌, leb, length, get_or, drop, Option, Some, None}
 use Rattle.words.specs.Words.{number_at, integer_at}
 use Rattle.parties.specs.Sets.{none}
 use Rattle.parties.specs.SetBytes.{set_at}
 use Rattle.refusals.specs.Numbers.{not_an_event}
 use Rattle.records.specs.declared.events.Event.{Event}
 use Rattle.records.specs.declared.events.Event.TheVariants.{Read, Wrote, Shared, Opened, Passed, Finished, Stopped}
-use Rattle.walk.specs.declared.Width.{Width}
-use Rattle.walk.specs.declared.Width.TheVariants.{Known, Unknown}
 use Rattle.walk.specs.declared.Step.{Step}
 use Rattle.walk.specs.declared.Step.TheVariants as Step'
 
@@ -18,8 +16,8 @@ is_event_kind kind = leb 1 kind && leb kind 7
 unfoldable pub body_width : ℕ → ℕ
 body_width kind = get_or (0 ∷ 4 ∷ 4 ∷ 3 ∷ 6 ∷ 2 ∷ 9 ∷ 3 ∷ []) kind 0
 
-unfoldable pub width_of : ℕ → Width
-width_of kind = cond (is_event_kind kind) (Known (body_width kind)) Unknown
+unfoldable pub width_of : ℕ → Option ℕ
+width_of kind = cond (is_event_kind kind) (Some (body_width kind)) None
 
 -- the event of a kind whose body stands at the head of b: "an event's other bytes aren't tested"
 unfoldable pub event_from : ℕ → List ℕ → Event

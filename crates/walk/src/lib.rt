@@ -7,25 +7,18 @@ ghost use Rattle.walk.specs.Walk.{body_width, width_of, event_from, told, step_a
 use limits::Party;
 use records::events::Event;
 
-// What the kind byte fixes.
-#[derive(Clone, Copy)]
-pub enum Width {
-    // the body's length
-    Known(usize),
-    Unknown,
-}
-
-pub fn width_of(kind: u8) -> Width
+// The length of the body, which the kind byte fixes, or `None` where the byte is no kind.
+pub fn width_of(kind: u8) -> Option<usize>
     ensures { result ≡ width_of kind }
 {
     match kind {
-        1..=2 => Width::Known(4),
-        3 => Width::Known(3),
-        4 => Width::Known(6),
-        5 => Width::Known(2),
-        6 => Width::Known(9),
-        7 => Width::Known(3),
-        _ => Width::Unknown,
+        1..=2 => Some(4),
+        3 => Some(3),
+        4 => Some(6),
+        5 => Some(2),
+        6 => Some(9),
+        7 => Some(3),
+        _ => None,
     }
 }
 
@@ -59,7 +52,7 @@ impl Cursor {
             return Step::End;
         }
         let kind = bytes[at];
-        let Width::Known(n) = width_of(kind) else {
+        let Some(n) = width_of(kind) else {
             return Step::Bad(at);
         };
         let body = at + 1;

@@ -1,12 +1,9 @@
 -- `cases::rows::load_inputs`: what its loop keeps.
-use Prim.Native.Nat.{◌+◌, ◌-◌, ◌*◌}
-use lib.ListN.{length}
-use Rattle.words.specs.Words.{integer_at}
-use Rattle.cases.proofs.FillLaws.{Filling}
+use mathlib.Core.Path.{◌≡◌}
+use mathlib.Core.List.{◌++◌}
+use lib.ListN.{drop}
+use Rattle.cases.specs.Rows.{integers_at}
 use Rattle.cases.proofs.rows.load_inputs.Given as goal
 
 abbrev pub invariant-loop-i : goal.invariant-loop-i
-invariant-loop-i l = Filling (λ k. integer_at l.text (l.at + 4 * k)) l.initial.inputs l.i l.inputs
-
-abbrev pub decreases-loop-i : goal.decreases-loop-i
-decreases-loop-i l = length l.initial.inputs - l.i
+invariant-loop-i l = l.inputs ≡ integers_at l.i l.text l.at ++ drop l.i l.initial.inputs

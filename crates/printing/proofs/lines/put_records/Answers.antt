@@ -5,7 +5,7 @@ use Rattle.printing.proofs.LineLaws.{lines_none, lines_more, lines_all, part_ins
 use Rattle.printing.proofs.lines.put_records.Goals as goal
 
 pub loop-party-init : goal.loop-party-init
-loop-party-init c = (omega arith, lines_none _ _ _ _ _)
+loop-party-init c = lines_none _ _ _ _ _
 
 pub overflow_mul-start : goal.overflow_mul-start
 overflow_mul-start c = omega (arith, part_inside _ _ _ c.requires.0 _ c.loop-party-test.true)
@@ -25,7 +25,7 @@ slice_bounds-put_party-end c = omega (arith, part_inside _ _ _ c.requires.0 _ c.
 pub put_party-to-requires : goal.put_party-to-requires
 put_party-to-requires c =
     let a = c.args in
-    let v = c.loop-party.invariant.1 in
+    let v = c.loop-party.invariant in
     rw (part_is a.n a.records.now a.lengths.now c.loop-party.party)
     (omega (arith, puts_length v, line_room _ _ _ c.requires.0 _ _ _ _ _ c.loop-party-test.true c.requires.1 v))
 
@@ -33,7 +33,7 @@ pub loop-party-preserved : goal.loop-party-preserved
 loop-party-preserved c =
     let a = c.args in
     let q = rw (part_is a.n a.records.now a.lengths.now c.loop-party.party) at c.put_party-to.ensures in
-    (omega arith, lines_more _ _ _ _ _ _ _ _ _ _ c.loop-party.invariant.1 q)
+    lines_more _ _ _ _ _ _ _ _ _ _ c.loop-party.invariant q
 
 pub returns : goal.returns
-returns c = lines_all _ _ _ _ _ _ _ _ c.loop-party.invariant.0 c.loop-party-test.false c.loop-party.invariant.1
+returns c = lines_all _ _ _ _ _ _ _ _ (omega arith) c.loop-party.invariant

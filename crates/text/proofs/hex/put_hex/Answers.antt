@@ -3,35 +3,28 @@ use native.Mathlib.Omega.{arith}
 use lib.ListN.{length-set}
 use Rattle.text.specs.Text.{hex}
 use Rattle.text.specs.TextLaws.{puts_length, puts_nothing}
-use Rattle.text.proofs.HexLaws.{hex_room, hex_more, hex_put}
+use Rattle.text.proofs.HexLaws.{hex_room, hex_more}
 use Rattle.text.proofs.hex.put_hex.Goals as goal
 
-pub loop-i-init : goal.loop-i-init
+pub loop-b-init : goal.loop-b-init
 unfolding hex
-loop-i-init c = (omega arith, puts_nothing)
-
-pub digit-requires : goal.digit-requires
-digit-requires c = omega (arith, c.shared_slice_known-in-loop-i-1.given c.loop-i.i)
+loop-b-init c = puts_nothing
 
 pub bounds-out-to : goal.bounds-out-to
 bounds-out-to c =
-    let v = c.loop-i.invariant in
-    omega (arith, puts_length v.1, hex_room _ _ _ _ _ _ c.loop-i-test.true c.requires v.1)
+    let p = c.loop-b.invariant in
+    omega (arith, puts_length p, hex_room _ _ _ _ _ _ c.loop-b-test.true c.requires p)
 
 pub overflow_add-out : goal.overflow_add-out
-overflow_add-out c = omega (arith, hex_room _ _ _ _ _ _ c.loop-i-test.true c.requires c.loop-i.invariant.1)
+overflow_add-out c = omega (arith, hex_room _ _ _ _ _ _ c.loop-b-test.true c.requires c.loop-b.invariant)
 
-pub bounds-out-to-in-loop-i : goal.bounds-out-to-in-loop-i
-bounds-out-to-in-loop-i c =
-    let v = c.loop-i.invariant in
-    rw length-set (omega (arith, puts_length v.1, hex_room _ _ _ _ _ _ c.loop-i-test.true c.requires v.1))
+pub bounds-out-to-in-loop-b : goal.bounds-out-to-in-loop-b
+bounds-out-to-in-loop-b c =
+    let p = c.loop-b.invariant in
+    rw length-set (omega (arith, puts_length p, hex_room _ _ _ _ _ _ c.loop-b-test.true c.requires p))
 
 pub overflow_add-to : goal.overflow_add-to
-overflow_add-to c = omega (arith, hex_room _ _ _ _ _ _ c.loop-i-test.true c.requires c.loop-i.invariant.1)
+overflow_add-to c = omega (arith, hex_room _ _ _ _ _ _ c.loop-b-test.true c.requires c.loop-b.invariant)
 
-pub loop-i-preserved : goal.loop-i-preserved
-loop-i-preserved c =
-    (omega arith, rw (c.digit.ensures, c.digit-in-loop-i.ensures) (hex_more _ _ _ _ _ _ c.loop-i-test.true c.loop-i.invariant.1))
-
-pub returns : goal.returns
-returns c = hex_put _ _ _ _ _ _ c.loop-i-test.false c.loop-i.invariant.1
+pub loop-b-preserved : goal.loop-b-preserved
+loop-b-preserved c = rw (c.digit.ensures, c.digit-in-loop-b.ensures) (hex_more _ _ _ _ _ _ c.loop-b-test.true c.loop-b.invariant)

@@ -1,17 +1,17 @@
--- `text::plain::put` meets its contract. Assumes nothing.
+-- What stands before the word and after it is as it was. Assumes nothing.
 use mathlib.Core.Path.{refl}
+use mathlib.Core.List.{append_assoc}
+use Prim.Native.Nat.{◌+◌}
 use native.Mathlib.Omega.{arith}
-use lib.ListN.{length-set}
-use Rattle.text.proofs.WordLaws.{word_more, word_put}
+use lib.ListN.{length}
+use lib.Seq.{sets-eq}
+use borrow.Rule.Slice.PartMut.{Post-is}
 use Rattle.text.proofs.plain.put.Goals as goal
 
-pub loop-i-init : goal.loop-i-init
-loop-i-init c = (omega arith, refl, refl)
-
-pub loop-i-preserved : goal.loop-i-preserved
-loop-i-preserved c =
-    let v = c.loop-i.invariant in
-    (omega arith, simp length-set v.1, word_more _ _ _ _ _ c.loop-i-test.true v.2)
-
 pub returns : goal.returns
-returns c = word_put _ _ _ _ _ c.loop-i.invariant.0 c.loop-i-test.false c.loop-i.invariant.2
+returns c =
+    let x = c.args.out.now in
+    let at = c.args.at in
+    let word = c.args.word.now in
+    let after = Post-is at (at + length word) x (omega arith) in
+    record { end = refl; bytes = rw (c.copy_from_slice.ensures.after, after, sets-eq word x at (omega arith), append_assoc) }
