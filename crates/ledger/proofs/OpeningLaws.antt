@@ -1,11 +1,13 @@
 -- The start of a run: where control is, and the books, with nothing written and no length above 0. Assumes nothing.
-use mathlib.Core.Path.{◌≡◌, refl, ap, ◌∙◌}
-use mathlib.Core.List.{List, []}
+use mathlib.Core.Path.{◌≡◌, refl, sym, ap, ◌∙◌}
+use mathlib.Core.List.{List, [], ◌++◌}
 use Prim.Native.Nat.{ℕ, zero, suc, ◌+◌, ◌-◌, ◌≤◌}
 use native.Mathlib.Numerals.{add-one}
 use native.Mathlib.Omega.{arith}
 use lib.IntN.{ℤ}
-use lib.ListN.{length, get_or, set, replicate}
+use borrow.Author.Fill.{fill_none, fill_more}
+use lib.ListN.{length, get_or, set, take, drop, replicate}
+use lib.Seq.{length-take-le}
 use Rattle.parties.specs.Sets.{all}
 use Rattle.parties.specs.declared.sets.PartySet.{PartySet}
 use Rattle.program.specs.Check.{Program}
@@ -30,16 +32,13 @@ zeros (suc k) zero = refl
 zeros (suc k) (suc P) = zeros k P
 
 -- ---- lengths of 0
-pub none_zero : (ls : List ℕ) → ls ≡ none_used 0 ls
+filled : (n : ℕ) (ls : List ℕ) → n ≤ length ls → none_used n ls ≡ replicate n 0 ++ drop n ls
 unfolding none_used
-none_zero ls = refl
+filled zero ls h = fill_none ls 0
+filled (suc n) ls h = ap (λ (r : List ℕ). set r n 0) (filled n ls (omega arith)) ∙ rw add-one at (fill_more n 0 ls (omega arith))
 
-pub none_more : (p : ℕ) (ls₀ ls : List ℕ) → ls ≡ none_used p ls₀ → set ls p 0 ≡ none_used (p + 1) ls₀
-unfolding none_used
-none_more p ls₀ ls e = rw (e, add-one p)
-
-pub none_all : (p n : ℕ) (ls₀ ls : List ℕ) → p ≤ n → n ≤ p → ls ≡ none_used p ls₀ → ls ≡ none_used n ls₀
-none_all p n ls₀ ls h l e = let q : p ≡ n = omega arith in e ∙ ap (λ (k : ℕ). none_used k ls₀) q
+pub cleared : (n : ℕ) (ls zs : List ℕ) → n ≤ length ls → zs ≡ replicate (length (take n ls)) 0 → zs ++ drop n ls ≡ none_used n ls
+cleared n ls zs h e = rw (e, length-take-le n ls h) (sym (filled n ls h))
 
 -- ---- the books at the start, in the lent bytes
 module _ (inputs : ℕ → List ℤ) where

@@ -62,14 +62,11 @@ pub fn room_for_all(e: Event, m: PartySet, n: u8, room: usize, lengths: &[usize]
     let those = writers(e, m);
     let own = e.size();
     let other = passed(e).size();
-    let mut left = m.meet(PartySet::all(n));
-    while !left.is_empty() {
-        let p = left.lowest();
+    for p in m.meet(PartySet::all(n)).members() {
         let used = lengths[p as usize];
         if !may_note(Party { index: p }, those, own, other, room, used) {
             return false;
         }
-        left = left.rest();
     }
     true
 }
@@ -110,11 +107,8 @@ pub fn note_all(e: Event, m: PartySet, n: u8, room: usize, bytes: &mut [u8], len
 {
     let those = writers(e, m);
     let other = passed(e);
-    let mut left = m.meet(PartySet::all(n));
-    while !left.is_empty() {
-        let p = left.lowest();
+    for p in m.meet(PartySet::all(n)).members() {
         note_one(e, other, those, p, room, bytes, lengths);
-        left = left.rest();
     }
 }
 
@@ -135,21 +129,16 @@ pub fn finish_all(v: Value, n: u8, room: usize, bytes: &mut [u8], lengths: &mut 
     requires { (n ≤ max_parties) × (n * room ≤ length bytes.old) × (n ≤ length lengths.old) }
     ensures { FinishesAll room n v bytes.old lengths.old bytes.new lengths.new }
 {
-    let mut p: u8 = 0;
-    while p < n {
+    for p in 0..n {
         finish_one(v, p, room, bytes, lengths);
-        p += 1;
     }
 }
 
 // No party has used anything of its record.
+#[tactic(auto, using(crate::proofs::OpeningLaws::cleared))]
 pub fn clear_lengths(n: u8, lengths: &mut [usize])
     requires { n ≤ length lengths.old }
     ensures { lengths.new ≡ none_used n lengths.old }
 {
-    let mut p: u8 = 0;
-    while p < n {
-        lengths[p as usize] = 0;
-        p += 1;
-    }
+    lengths[..n as usize].fill(0);
 }

@@ -76,14 +76,11 @@ pub fn gather(
     ensures { Gathers node e m n room result lengths.now work.now }
 {
     let mut brought = Offer::Empty;
-    let mut left = m.meet(PartySet::all(n));
-    while !left.is_empty() {
-        let p = left.lowest();
+    for p in m.meet(PartySet::all(n)).members() {
         let Gathered::All(more) = brings(node, e, m, p, room, brought, lengths, work) else {
             return Gathered::Missing;
         };
         brought = more;
-        left = left.rest();
     }
     Gathered::All(brought)
 }
@@ -122,13 +119,10 @@ fn all_agree(
     requires { (n ≤ max_parties) × (n ≤ length lengths.now) × (n * row_size ≤ length work.now) }
     ensures { AllAgree node e m n room number holders result lengths.now work.now }
 {
-    let mut left = m.meet(PartySet::all(n));
-    while !left.is_empty() {
-        let p = left.lowest();
+    for p in m.meet(PartySet::all(n)).members() {
         if !member_agrees(node, e, m, p, room, number, holders, lengths, work) {
             return false;
         }
-        left = left.rest();
     }
     true
 }

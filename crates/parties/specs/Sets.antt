@@ -1,5 +1,5 @@
 -- Party sets: "A party set is two bytes, bit i for party i" (document 01, "Program bytes").
-use Rattle.std.specs.Prelude.{ℕ, zero, suc, ◌+◌, ◌-◌, ◌/◌, ◌%◌, ◌^◌, Bool, cond, eqb, ltb}
+use Rattle.std.specs.Prelude.{◌≡◌, ℕ, zero, suc, ◌+◌, ◌-◌, ◌/◌, ◌%◌, ◌^◌, Bool, true, false, cond, eqb, ltb, Option, MatchOption}
 use Rattle.std.specs.Int.Bits.{bit_and, bit_or}
 use Rattle.limits.specs.Limits.{max_parties}
 use Rattle.parties.specs.declared.sets.PartySet.{PartySet}
@@ -62,3 +62,7 @@ rest s = record { bits = bit_and s.bits (s.bits - 1) }
 -- "a and q together are exactly m"
 unfoldable pub make_up : ℕ → PartySet → PartySet → Bool
 make_up a q m = same_set m (join (only a) q)
+
+-- a call gave the lowest party of s and left the others, or nothing where there is none
+abbrev pub GivesLowest : PartySet → Option ℕ → PartySet → Type 0
+GivesLowest s given left = MatchOption given ((is_empty s ≡ true) × (left ≡ s)) (λ p. (is_empty s ≡ false) × (p ≡ lowest s) × (left ≡ rest s))

@@ -1,7 +1,8 @@
 // Sets of parties over 16 bits: bit i for party i.
 ghost use Rattle.std.specs.Prelude.{◌≡◌, Bool, ◌<◌, ◌≤◌};
+ghost use Rattle.std.specs.Iterator.{at_most};
 ghost use Rattle.limits.specs.Limits.{max_parties};
-ghost use Rattle.parties.specs.Sets.{member, meet, join, is_empty, same_set, count, lowest, rest, only, all, within, make_up};
+ghost use Rattle.parties.specs.Sets.{member, meet, join, is_empty, same_set, count, lowest, rest, only, all, within, make_up, GivesLowest};
 
 use limits::Party;
 
@@ -76,6 +77,13 @@ impl PartySet {
         PartySet { bits: b & (b - 1) }
     }
 
+    // The parties of the set, the lowest first.
+    pub fn members(self) -> Members
+        ensures { result.left ≡ self }
+    {
+        Members { left: self }
+    }
+
     // The set holds only parties below n.
     pub fn within(self, n: u8) -> bool
         ensures { result ≡ within n self }
@@ -115,5 +123,29 @@ impl PartySet {
         PartySet {
             bits: ((1u32 << n) - 1) as u16,
         }
+    }
+}
+
+// The parties of a set that are still to come, the lowest first.
+#[derive(Clone, Copy)]
+pub struct Members {
+    pub left: PartySet,
+}
+
+impl Iterator for Members {
+    type Item = u8;
+
+    ghost next_gives = { λ s r t. GivesLowest s.left r t.left };
+
+    ghost remaining = { λ s. at_most s.left.bits };
+
+    #[tactic(auto, using(crate::specs::SetLaws::rest_fewer))]
+    fn next(&mut self) -> Option<u8> {
+        if self.left.is_empty() {
+            return None;
+        }
+        let p = self.left.lowest();
+        self.left = self.left.rest();
+        Some(p)
     }
 }

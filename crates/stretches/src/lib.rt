@@ -8,22 +8,14 @@ ghost use Rattle.stretches.specs.Stretches.{copied, Apart};
 pub fn zero(s: &mut [u8])
     ensures { s.new ≡ replicate (length s.old) 0 }
 {
-    let mut i: usize = 0;
-    while i < s.len() {
-        s[i] = 0;
-        i += 1;
-    }
+    s.fill(0);
 }
 
 // The n bytes at `from` are written at `to`, where none of them lies.
+#[tactic(auto, using(crate::proofs::StretchLaws::copied_is))]
 pub fn copy_within(s: &mut [u8], from: usize, to: usize, n: usize)
     requires { (from + n ≤ length s.old) × (to + n ≤ length s.old) × Apart from to n }
     ensures { s.new ≡ copied s.old from to n }
 {
-    let mut i = 0;
-    while i < n {
-        let b = s[from + i];
-        s[to + i] = b;
-        i += 1;
-    }
+    s.copy_within(from..from + n, to);
 }

@@ -1,3 +1,2 @@
 pub mod SpellLaws
-pub mod TwosComplement
 pub mod WordLaws

@@ -1,33 +1,46 @@
 -- A number's bytes, low byte first: what is read where they were written, over the width. Assumes nothing.
 use mathlib.Core.Path.{◌≡◌, refl, ap, ◌∙◌}
-use mathlib.Core.List.{List, ◌∷◌, ◌++◌}
-use Prim.Native.Nat.{ℕ, zero, suc, ◌+◌, ◌*◌, ◌/◌, ◌%◌, ◌^◌, ◌≤◌, ◌<◌}
-use native.Mathlib.Nat.{add_assoc, add-zero, zero-add, pow-suc}
+use mathlib.Core.List.{List, ◌∷◌, ◌++◌, append_assoc}
+use Prim.Native.Nat.{ℕ, zero, suc, ◌+◌, ◌-◌, ◌*◌, ◌/◌, ◌%◌, ◌^◌, ◌≤◌, ◌<◌}
+use native.Mathlib.Nat.{add_assoc, add-zero, zero-add, pow-suc, div-one, div-div-eq-div-mul}
 use native.Mathlib.Omega.{arith}
-use lib.ListN.{length, get_or, get_or-append}
-use lib.Seq.{sets, get_or-append-add}
+use borrow.Rule.Slice.PartMut.{put_mid}
+use lib.ListN.{length, get_or, get_or-append, take, drop}
+use lib.Seq.{sets, sets-eq, get_or-append-add, drop-drop}
 use lib.IntN.{ℤ}
 use mir.Syntax.{w32}
 use mir.Val.{SFits}
+use Rattle.std.specs.Int.{byte_at, bytes_low_first}
 use Rattle.numbers.specs.Integers.{residue}
 use Rattle.words.specs.Words.{low_first, number_at, integer_bytes, integer_at}
 use Rattle.stretches.proofs.StretchLaws.{sets_at}
 use Rattle.numbers.proofs.IntegerLaws.{signed_residue, residue_fits}
 
--- the bytes that a load adds up
-pub two : (xs : List ℕ) (at a b : ℕ) → a ≡ get_or xs at 0 → b ≡ get_or xs (at + 1) 0 → a + 256 * b ≡ number_at 2 xs at
-unfolding number_at
-two xs at a b ea eb = omega arith
-
-pub four : (xs : List ℕ) (at a b c d : ℕ) → a ≡ get_or xs at 0 → b ≡ get_or xs (at + 1) 0 → c ≡ get_or xs (at + 2) 0 → d ≡ get_or xs (at + 3) 0
-    → a + 256 * (b + 256 * (c + 256 * d)) ≡ number_at 4 xs at
-unfolding number_at
-four xs at a b c d ea eb ec ed = simp add_assoc (omega arith)
+-- the bytes that the library makes of a number
+bytes_low : (k i n : ℕ) → bytes_low_first i k n ≡ low_first k (n / 256 ^ i)
+unfolding low_first
+bytes_low zero i n = refl
+bytes_low (suc k) i n =
+    let first : byte_at i n ≡ n / 256 ^ i % 256 = byte i in
+    let others : bytes_low_first (suc i) k n ≡ low_first k (n / 256 ^ i / 256) = bytes_low k (suc i) n ∙ rw (pow-suc 256 i, div-div-eq-div-mul n (256 ^ i) 256) in
+    rw (first, others)
+  where
+    byte : (j : ℕ) → byte_at j n ≡ n / 256 ^ j % 256
+    byte zero = rw (div-one n)
+    byte (suc j) = refl
 
 pub length_bytes : (k n : ℕ) → length (low_first k n) ≡ k
 unfolding low_first
 length_bytes zero n = refl
 length_bytes (suc k) n = ap suc (length_bytes k (n / 256))
+
+-- what a store leaves of a number's k bytes
+pub stored : (k n at : ℕ) (xs ys : List ℕ) → at + k ≤ length xs → ys ≡ bytes_low_first 0 k n → put_mid at (at + k - at) xs ys ≡ sets xs at (low_first k n)
+stored k n at xs ys h e =
+    let is : ys ≡ low_first k n = e ∙ bytes_low k 0 n ∙ rw (div-one n) in
+    let l : length ys ≡ k = rw is (length_bytes k n) in
+    let m : at + k - at ≡ k = omega arith in
+    rw (← is, sets-eq ys xs at (rw l h), l, m, drop-drop k at xs, append_assoc (take at xs) ys (drop (at + k) xs))
 
 -- what is read of bytes goes by those bytes alone
 pub number_same : (k : ℕ) (xs : List ℕ) (i : ℕ) (ys : List ℕ) (j : ℕ) → ((l : ℕ) → l < k → get_or xs (i + l) 0 ≡ get_or ys (j + l) 0) → number_at k xs i ≡ number_at k ys j

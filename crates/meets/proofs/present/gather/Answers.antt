@@ -1,46 +1,37 @@
 -- `meets::present::gather` meets its contract. Assumes nothing.
-use mathlib.Core.Bool.{not}
-use mathlib.Core.Path.{ap, ◌∙◌}
+use mathlib.Core.Path.{refl, ◌∙◌}
 use native.Mathlib.Omega.{arith}
-use Rattle.parties.specs.Sets.{meet}
 use Rattle.parties.specs.SetLaws.{below_within}
-use Rattle.parties.proofs.LoopLaws.{left_start, left_here, left_next, left_over, left_falls}
+use Rattle.parties.proofs.LoopLaws.{left_start, left_here, left_next, left_over}
 use Rattle.rules.specs.declared.effects.Offer.TheVariants.{Empty}
 use Rattle.meets.proofs.MeetLaws.{below_in, gather_passes, gather_none, gather_all, gather_more, gather_missing}
 use Rattle.meets.proofs.present.gather.Goals as goal
 
-pub loop-node-init : goal.loop-node-init
-loop-node-init c =
-    let members = c.meet-left.ensures ∙ ap (meet c.args.m) c.all.ensures in
-    let a = c.args in left_start _ _ (gather_passes a.node a.e a.m a.n a.room a.lengths.now a.work.now _ members Empty) (gather_none a.node a.e a.m a.n a.room a.lengths.now a.work.now)
+pub loop-p-init : goal.loop-p-init
+loop-p-init c =
+    let a = c.args in
+    left_start _ _ (rw (c.into_iter-p-iterator.ensures.into_iter_gives, c.members-p-items.ensures, c.meet.ensures, c.all.ensures))
+    (gather_passes a.node a.e a.m a.n a.room a.lengths.now a.work.now _ refl Empty) (gather_none a.node a.e a.m a.n a.room a.lengths.now a.work.now)
 
 pub brings-requires : goal.brings-requires
 brings-requires c =
-    let members = c.meet-left.ensures ∙ ap (meet c.args.m) c.all.ensures in
-    let here = left_here _ _ (omega arith) c.loop-node.invariant c.is_empty.ensures (rw members (below_within _ _)) (ap not c.loop-node-test.true) c.lowest-p.ensures in
+    let here = left_here _ _ (omega arith) c.loop-p.invariant (below_within _ _) c.in-Some.ensures.steps in
     (omega (arith, here.below), omega (arith, here.below))
 
 pub returns-in_default : goal.returns-in_default
 returns-in_default c =
-    let members = c.meet-left.ensures ∙ ap (meet c.args.m) c.all.ensures in
-    let here = left_here _ _ (omega arith) c.loop-node.invariant c.is_empty.ensures (rw members (below_within _ _)) (ap not c.loop-node-test.true) c.lowest-p.ensures in
-    let inside = below_in _ c.args.m c.args.n members c.lowest-p.result here.below ∙ here.inside in
-    let a = c.args in gather_missing a.node a.e a.m a.n a.room a.lengths.now a.work.now c.lowest-p.result c.loop-node.brought here.below inside c.brings.result c.brings.ensures c.in_default.is
-
-pub loop-node-smaller : goal.loop-node-smaller
-loop-node-smaller c =
-    let members = c.meet-left.ensures ∙ ap (meet c.args.m) c.all.ensures in
-    let here = left_here _ _ (omega arith) c.loop-node.invariant c.is_empty.ensures (rw members (below_within _ _)) (ap not c.loop-node-test.true) c.lowest-p.ensures in
-    left_falls _ _ here c.rest-left.ensures
-
-pub loop-node-preserved : goal.loop-node-preserved
-loop-node-preserved c =
-    let members = c.meet-left.ensures ∙ ap (meet c.args.m) c.all.ensures in
-    let here = left_here _ _ (omega arith) c.loop-node.invariant c.is_empty.ensures (rw members (below_within _ _)) (ap not c.loop-node-test.true) c.lowest-p.ensures in
-    let inside = below_in _ c.args.m c.args.n members c.lowest-p.result here.below ∙ here.inside in
     let a = c.args in
-    left_next _ _ here c.rest-left.ensures (gather_passes a.node a.e a.m a.n a.room a.lengths.now a.work.now _ members _)
-    (gather_more a.node a.e a.m a.n a.room a.lengths.now a.work.now c.lowest-p.result c.loop-node.brought here.below inside c.brings.result c.brings.ensures _ c.in-All.is here.so_far)
+    let here = left_here _ _ (omega arith) c.loop-p.invariant (below_within _ _) c.in-Some.ensures.steps in
+    let inside = below_in _ a.m a.n refl c.in-Some.p here.below ∙ here.inside in
+    gather_missing a.node a.e a.m a.n a.room a.lengths.now a.work.now c.in-Some.p c.loop-p.brought here.below inside c.brings.result c.brings.ensures c.in_default.is
+
+pub loop-p-preserved : goal.loop-p-preserved
+loop-p-preserved c =
+    let a = c.args in
+    let here = left_here _ _ (omega arith) c.loop-p.invariant (below_within _ _) c.in-Some.ensures.steps in
+    let inside = below_in _ a.m a.n refl c.in-Some.p here.below ∙ here.inside in
+    left_next _ _ here (gather_passes a.node a.e a.m a.n a.room a.lengths.now a.work.now _ refl _)
+    (gather_more a.node a.e a.m a.n a.room a.lengths.now a.work.now c.in-Some.p c.loop-p.brought here.below inside c.brings.result c.brings.ensures _ c.in-All.is here.so_far)
 
 pub returns : goal.returns
-returns c = let a = c.args in gather_all a.node a.e a.m a.n a.room a.lengths.now a.work.now c.loop-node.brought (left_over _ _ (omega arith) c.loop-node.invariant c.is_empty.ensures (ap not c.loop-node-test.false))
+returns c = let a = c.args in gather_all a.node a.e a.m a.n a.room a.lengths.now a.work.now c.loop-p.brought (left_over _ _ (omega arith) c.loop-p.invariant c.in-None.ensures.steps)
