@@ -1,11 +1,11 @@
 // Sets of parties over 16 bits: bit i for party i.
 ghost use Rattle.std.specs.Prelude.{◌≡◌, Bool, ◌<◌, ◌≤◌};
 ghost use Rattle.limits.specs.Limits.{max_parties};
-ghost use Rattle.parties.specs.Sets.{member, meet, join, is_empty, same_set, count, lowest, rest, only, all, within, make_up};
+ghost use Rattle.parties.specs.Sets.{member, meet, join, is_empty, count, lowest, rest, only, all, within, make_up};
 
 use limits::Party;
 
-#[derive(Clone, Copy)]
+#[derive(Clone, Copy, PartialEq, Eq)]
 pub struct PartySet {
     pub bits: u16,
 }
@@ -42,12 +42,6 @@ impl PartySet {
         ensures { result ≡ is_empty self }
     {
         self.bits == 0
-    }
-
-    pub fn is(self, t: PartySet) -> bool
-        ensures { result ≡ same_set self t }
-    {
-        self.bits == t.bits
     }
 
     // How many parties are in the set.
@@ -92,7 +86,7 @@ impl PartySet {
         ensures { result ≡ make_up a.index q self }
     {
         if a.index < Party::MAX {
-            self.is(PartySet::only(a).join(q))
+            self == PartySet::only(a).join(q)
         } else {
             false
         }
