@@ -82,6 +82,7 @@ impl PartySet {
     }
 
     // a and q together are exactly this set.
+    #[tactic(auto, using(crate::proofs::BitLaws::none_made), unfolding(crate::specs::Sets::make_up, crate::specs::Sets::same_set))]
     pub fn made_up_by(self, a: Party, q: PartySet) -> bool
         ensures { result ≡ make_up a.index q self }
     {
