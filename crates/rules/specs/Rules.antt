@@ -12,7 +12,6 @@ use Rattle.values.specs.Values.{held, had_by}
 use Rattle.values.specs.declared.value.Value.{Value}
 use Rattle.values.specs.declared.value.Value.TheVariants.{Nothing, Clear, Share}
 use Rattle.values.specs.declared.value.Held.{Held}
-use Rattle.values.specs.declared.value.Held.TheVariants.{Number, Other}
 use Rattle.nodes.specs.Nodes.{operation_of}
 use Rattle.nodes.specs.declared.Node.{Node}
 use Rattle.nodes.specs.declared.Node.TheVariants.{VAR, INT, OP, MUX, READ, WRITE, EMBED, SHARE, REVEAL, LET, CASE, PAR, CALL}
@@ -38,26 +37,26 @@ hands_back v = Goes (Hand v)
 -- ---- OP, MUX, and the others that want their values at exactly m
 
 -- "all clear and at exactly m, result clear at m; or all shares with holders m at exactly m, result such a share"
-abbrev pub on_two : PartySet → (ℤ → ℤ → ℤ) → Held → Held → Effect
-on_two m f (Number s i) (Number t j) = unless wrong_value (beq s t) (hands_back (had_by m s (f i j)))
-on_two m f (Number s i) Other = Refuse wrong_value
-on_two m f Other h = Refuse wrong_value
+abbrev pub on_two : PartySet → (ℤ → ℤ → ℤ) → Option Held → Option Held → Effect
+on_two m f (Some x) (Some y) = unless wrong_value (beq x.secret y.secret) (hands_back (had_by m x.secret (f x.number y.number)))
+on_two m f (Some x) None = Refuse wrong_value
+on_two m f None y = Refuse wrong_value
 
-abbrev pub on_three : PartySet → (ℤ → ℤ → ℤ → ℤ) → Held → Held → Held → Effect
-on_three m f (Number s i) (Number t j) (Number u k) = unless wrong_value (beq s t && beq s u) (hands_back (had_by m s (f i j k)))
-on_three m f (Number s i) (Number t j) Other = Refuse wrong_value
-on_three m f (Number s i) Other h = Refuse wrong_value
-on_three m f Other g h = Refuse wrong_value
+abbrev pub on_three : PartySet → (ℤ → ℤ → ℤ → ℤ) → Option Held → Option Held → Option Held → Effect
+on_three m f (Some x) (Some y) (Some z) =
+    unless wrong_value (beq x.secret y.secret && beq x.secret z.secret) (hands_back (had_by m x.secret (f x.number y.number z.number)))
+on_three m f (Some x) (Some y) None = Refuse wrong_value
+on_three m f (Some x) None z = Refuse wrong_value
+on_three m f None y z = Refuse wrong_value
 
 -- "MUX is y where x is not 0, else z."
 unfoldable pub mux : ℤ → ℤ → ℤ → ℤ
 mux x y z = cond (same_integer x (pos 0)) z y
 
 -- "x clear at exactly m"
-abbrev pub if_clear : Held → (ℤ → Effect) → Effect
-if_clear (Number true i) k = Refuse wrong_value
-if_clear (Number false i) k = k i
-if_clear Other k = Refuse wrong_value
+abbrev pub if_clear : Option Held → (ℤ → Effect) → Effect
+if_clear (Some x) k = cond x.secret (Refuse wrong_value) (k x.number)
+if_clear None k = Refuse wrong_value
 
 -- "m has one party"
 unfoldable pub alone : PartySet → Bool
