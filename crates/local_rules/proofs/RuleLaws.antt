@@ -17,14 +17,13 @@ use Rattle.parties.proofs.BitLaws.{none_made}
 use Rattle.values.specs.Values.{had_by}
 use Rattle.values.specs.declared.value.Value.{Value}
 use Rattle.values.specs.declared.value.Held.{Held}
-use Rattle.values.specs.declared.value.Held.TheVariants.{Number, Other}
 use Rattle.refusals.specs.Numbers.{wrong_value}
 use Rattle.rules.specs.Rules.{if_clear, hands_back}
 use Rattle.local_rules.specs.Handed.{clear_in}
+use Rattle.std.specs.Prelude.{Option, Some, None}
 use Rattle.rules.specs.declared.effects.Effect.{Effect}
 use Rattle.rules.specs.declared.effects.Effect.TheVariants.{Refuse, Goes}
 use Rattle.rules.specs.declared.effects.Move.TheVariants.{Hand, Goto}
-use Rattle.local_rules.specs.declared.Clear.TheVariants.{Is, Not}
 
 -- who makes up a mode is one of its sixteen parties
 pub maker_below : (a : ℕ) (q m : PartySet) → m.bits < 65536 → make_up a q m ≡ true → a < 16
@@ -35,15 +34,21 @@ maker_below a q m h e =
     ]
 
 -- a rule that wants a clear integer gets it, or refuses
-pub clear_is : (h : Held) (k : ℤ → Effect) (i : ℤ) → clear_in h ≡ Is i → k i ≡ if_clear h k
-clear_is (Number true j) k i e = absurd (let z : ◌≡◌ {A = ℕ} 0 1 = cc in omega arith)
-clear_is (Number false j) k i e = let q : i ≡ j = cc in rw q
-clear_is Other k i e = absurd (let z : ◌≡◌ {A = ℕ} 0 1 = cc in omega arith)
+pub clear_is : (h : Option Held) (k : ℤ → Effect) (i : ℤ) → clear_in h ≡ Some i → k i ≡ if_clear h k
+clear_is None k i e = absurd (let z : ◌≡◌ {A = ℕ} 0 1 = cc in omega arith)
+clear_is (Some x) k i e = go x.secret e
+  where
+    go : (s : Bool) → cond s None (Some x.number) ≡ Some i → k i ≡ cond s (Refuse wrong_value) (k x.number)
+    go true e = absurd (let z : ◌≡◌ {A = ℕ} 0 1 = cc in omega arith)
+    go false e = let q : i ≡ x.number = cc in rw q
 
-pub clear_not : (h : Held) (k : ℤ → Effect) → clear_in h ≡ Not → Refuse wrong_value ≡ if_clear h k
-clear_not (Number true j) k e = refl
-clear_not (Number false j) k e = absurd (let z : ◌≡◌ {A = ℕ} 0 1 = cc in omega arith)
-clear_not Other k e = refl
+pub clear_not : (h : Option Held) (k : ℤ → Effect) → clear_in h ≡ None → Refuse wrong_value ≡ if_clear h k
+clear_not None k e = refl
+clear_not (Some x) k e = go x.secret e
+  where
+    go : (s : Bool) → cond s None (Some x.number) ≡ None → Refuse wrong_value ≡ cond s (Refuse wrong_value) (k x.number)
+    go true e = refl
+    go false e = absurd (let z : ◌≡◌ {A = ℕ} 0 1 = cc in omega arith)
 
 -- an integer that is tested against 0
 pub is_zero : (i : ℤ) → SFits w32 i → of_z w32 i ≡ 0 → same_integer i (pos 0) ≡ true
@@ -56,10 +61,10 @@ not_zero i n = bits_other i (pos 0) n
 abbrev goes : ℕ → ℕ → ℤ → Effect
 goes e1 e2 i = Goes (Goto (cond (same_integer i (pos 0)) e2 e1))
 
-pub case_zero : (h : Held) (i : ℤ) (e1 e2 : ℕ) → clear_in h ≡ Is i → mag i < 2147483648 → of_z w32 i ≡ 0 → Goes (Goto e2) ≡ if_clear h (goes e1 e2)
+pub case_zero : (h : Option Held) (i : ℤ) (e1 e2 : ℕ) → clear_in h ≡ Some i → mag i < 2147483648 → of_z w32 i ≡ 0 → Goes (Goto e2) ≡ if_clear h (goes e1 e2)
 case_zero h i e1 e2 e f z = (rw (is_zero i (record { sfits = f }) z)) ∙ clear_is h (goes e1 e2) i e
 
-pub case_other : (h : Held) (i : ℤ) (e1 e2 : ℕ) → clear_in h ≡ Is i → (of_z w32 i ≡ 0 → ⊥) → Goes (Goto e1) ≡ if_clear h (goes e1 e2)
+pub case_other : (h : Option Held) (i : ℤ) (e1 e2 : ℕ) → clear_in h ≡ Some i → (of_z w32 i ≡ 0 → ⊥) → Goes (Goto e1) ≡ if_clear h (goes e1 e2)
 case_other h i e1 e2 e n = (rw (not_zero i n)) ∙ clear_is h (goes e1 e2) i e
 
 -- what an operation of the code hands back

@@ -20,4 +20,4 @@ returns-in_default c = let a = c.args in
 
 pub returns : goal.returns
 returns c = let a = c.args in
-    rw (read32 c.in-Is.i (record { sfits = omega arith })) (clear_is (held a.m a.x) (shared a.m) _ (sym c.clear_at.ensures ∙ c.in-Is.is))
+    rw (read32 c.in-Some.i (record { sfits = omega arith })) (clear_is (held a.m a.x) (shared a.m) _ (sym c.clear_at.ensures ∙ c.in-Some.is))

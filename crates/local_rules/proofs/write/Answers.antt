@@ -22,9 +22,9 @@ returns-in_default c = let a = c.args in
 pub returns-then-alone : goal.returns-then-alone
 returns-then-alone c = let a = c.args in
     let t = sym c.alone.ensures ∙ c.if-alone.true in
-    rw (read32 c.in-Is.i (record { sfits = omega arith })) ((rw t) ∙ clear_is (held a.m a.x) (written a.m) _ (sym c.clear_at.ensures ∙ c.in-Is.is))
+    rw (read32 c.in-Some.i (record { sfits = omega arith })) ((rw t) ∙ clear_is (held a.m a.x) (written a.m) _ (sym c.clear_at.ensures ∙ c.in-Some.is))
 
 pub returns-else-alone : goal.returns-else-alone
 returns-else-alone c = let a = c.args in
     let t = sym c.alone.ensures ∙ c.if-alone.false in
-    (rw t) ∙ clear_is (held a.m a.x) (written a.m) _ (sym c.clear_at.ensures ∙ c.in-Is.is)
+    (rw t) ∙ clear_is (held a.m a.x) (written a.m) _ (sym c.clear_at.ensures ∙ c.in-Some.is)
