@@ -33,40 +33,9 @@ maker_below a q m h e =
       | no l ↦ absurd (false≢true (none_made a q m h (omega arith) ∙ e))
     ]
 
--- a rule that wants a clear integer gets it, or refuses
-pub clear_is : (h : Option Held) (k : ℤ → Effect) (i : ℤ) → clear_in h ≡ Some i → k i ≡ if_clear h k
-clear_is None k i e = absurd (let z : ◌≡◌ {A = ℕ} 0 1 = cc in omega arith)
-clear_is (Some x) k i e = go x.secret e
-  where
-    go : (s : Bool) → cond s None (Some x.number) ≡ Some i → k i ≡ cond s (Refuse wrong_value) (k x.number)
-    go true e = absurd (let z : ◌≡◌ {A = ℕ} 0 1 = cc in omega arith)
-    go false e = let q : i ≡ x.number = cc in rw q
-
-pub clear_not : (h : Option Held) (k : ℤ → Effect) → clear_in h ≡ None → Refuse wrong_value ≡ if_clear h k
-clear_not None k e = refl
-clear_not (Some x) k e = go x.secret e
-  where
-    go : (s : Bool) → cond s None (Some x.number) ≡ None → Refuse wrong_value ≡ cond s (Refuse wrong_value) (k x.number)
-    go true e = refl
-    go false e = absurd (let z : ◌≡◌ {A = ℕ} 0 1 = cc in omega arith)
-
 -- an integer that is tested against 0
 pub is_zero : (i : ℤ) → SFits w32 i → of_z w32 i ≡ 0 → same_integer i (pos 0) ≡ true
 is_zero i h e = bits_same i (pos 0) h (record { sfits = omega arith }) e
 
 pub not_zero : (i : ℤ) → (of_z w32 i ≡ 0 → ⊥) → same_integer i (pos 0) ≡ false
 not_zero i n = bits_other i (pos 0) n
-
--- where a clear integer sends `case`
-abbrev goes : ℕ → ℕ → ℤ → Effect
-goes e1 e2 i = Goes (Goto (cond (same_integer i (pos 0)) e2 e1))
-
-pub case_zero : (h : Option Held) (i : ℤ) (e1 e2 : ℕ) → clear_in h ≡ Some i → mag i < 2147483648 → of_z w32 i ≡ 0 → Goes (Goto e2) ≡ if_clear h (goes e1 e2)
-case_zero h i e1 e2 e f z = (rw (is_zero i (record { sfits = f }) z)) ∙ clear_is h (goes e1 e2) i e
-
-pub case_other : (h : Option Held) (i : ℤ) (e1 e2 : ℕ) → clear_in h ≡ Some i → (of_z w32 i ≡ 0 → ⊥) → Goes (Goto e1) ≡ if_clear h (goes e1 e2)
-case_other h i e1 e2 e n = (rw (not_zero i n)) ∙ clear_is h (goes e1 e2) i e
-
--- what an operation of the code hands back
-pub handed_number : (m : PartySet) (s : Bool) (f : ℤ) (n : ℤ) (v : Value) → SFits w32 n → n ≡ f → v ≡ had_by m s (to_z w32 (of_z w32 n)) → Goes (Hand v) ≡ hands_back (had_by m s f)
-handed_number m s f n v h en ev = ap (λ (u : Value). Goes (Hand u)) (ev ∙ ap (λ (z : ℤ). had_by m s z) (read32 n h ∙ en))

@@ -15,6 +15,7 @@ use rules::effects::{Effect, Move};
 use values::value::Value;
 
 // m has one party: the count of ones of its bits.
+#[tactic(auto, unfolding(rules::specs::Rules::alone))]
 fn alone(m: PartySet) -> bool
     ensures { result ≡ alone m }
 {
@@ -34,6 +35,7 @@ pub fn op(o: u8, x: Value, y: Value, m: PartySet) -> Effect
 }
 
 // y where x is not 0, else z.
+#[tactic(auto, using(crate::proofs::RuleLaws::is_zero, crate::proofs::RuleLaws::not_zero), unfolding(rules::specs::Rules::mux))]
 fn chosen(x: i32, y: i32, z: i32) -> i32
     ensures { result ≡ mux x y z }
 {
@@ -92,7 +94,7 @@ pub fn embed(x: Value, m: PartySet) -> Effect
     Effect::Goes(Move::Hand(Value::Share(i, m, m)))
 }
 
-#[tactic(auto, using(crate::proofs::RuleLaws::case_zero, crate::proofs::RuleLaws::case_other))]
+#[tactic(auto, using(crate::proofs::RuleLaws::is_zero, crate::proofs::RuleLaws::not_zero))]
 pub fn case(x: Value, m: PartySet, e1: u16, e2: u16) -> Effect
     ensures { result ≡ if_clear (held m x) (λ i. Effect.Goes (Move.Goto (cond (same_integer i (pos 0)) e2 e1))) }
 {

@@ -1,9 +1,9 @@
 -- Document 01, "Rules of one step": what a node does in a mode, with the names bound. One function serves the single run, which sees whole
 -- values, and a site, which sees its slices. Only SHARE, REVEAL and PAR ask which of the two it is.
 -- A refusal is the lowest that fits: 5, 6, 7 here; 8, 9 and 10, of inputs, room and frames, are tried after (Single, Joint).
-use Rattle.std.specs.Prelude.{ℕ, Bool, true, false, not, ◌&&◌, cond, List, eqb, ℤ, pos}
+use Rattle.std.specs.Prelude.{ℕ, Bool, true, false, not, ◌&&◌, cond, List, eqb, ℤ, pos, Option, Some, None}
 use Rattle.std.specs.Bool.{beq}
-use Rattle.std.proofs.Math.Option.{Option, none, some}
+use Rattle.std.proofs.Math.Option.{Option as Maybe, none, some}
 use Rattle.numbers.specs.Integers.{operate, same_integer}
 use Rattle.parties.specs.Sets.{member, meet, join, is_empty, same_set, count, only, make_up}
 use Rattle.limits.specs.declared.Party.{Party}
@@ -130,7 +130,7 @@ unfoldable pub rule : View → Node → PartySet → Names → Effect
 rule w e m b = with_values (look_all m b (names_of e)) λ vs. judge w e m vs
 
 -- the meeting that a node asks for, where it is a joint one
-abbrev pub joint_meeting : Node → Option Meeting
+abbrev pub joint_meeting : Node → Maybe Meeting
 joint_meeting (VAR x) = none
 joint_meeting (INT i) = none
 joint_meeting (OP o x y) = none
