@@ -40,7 +40,7 @@ fn attends_from(
     if stands != e {
         return Attendance::Away;
     }
-    if !mode.is(m) {
+    if mode != m {
         return Attendance::Away;
     }
     let Invitation::To(_, offer) = site::own::invited(node, p, t, room, used, area) else {
@@ -80,7 +80,7 @@ pub fn agrees(i: i32, h: PartySet, p: Party, a: Attendance) -> bool
         return !h.has(p);
     };
     if h.has(p) {
-        if k.is(h) {
+        if k == h {
             return j == i;
         }
     }
