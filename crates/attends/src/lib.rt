@@ -70,6 +70,7 @@ pub fn attendance_of(
 }
 
 // What site p brings agrees with the number i and its holders h.
+#[tactic(auto, using(numbers::proofs::OperationLaws::bits_eqb), unfolding(rules::specs::Joint::agrees, parties::specs::Sets::same_set))]
 pub fn agrees(i: i32, h: PartySet, p: Party, a: Attendance) -> bool
     ensures { result ≡ agrees i h p.index (told a) }
 {
