@@ -1,4 +1,4 @@
--- Whether a site is at a meeting, from where it stands and what it is asked to do; and whether it agrees. Assumes nothing.
+-- Whether a site is at a meeting, from where it stands and what it is asked to do. Assumes nothing.
 use mathlib.Core.Path.{◌≡◌}
 use mathlib.Core.Bool.{Bool, true, false, not}
 use mathlib.Core.List.{List}
@@ -63,26 +63,3 @@ module _ (node : JointNode) (e : ℕ) (m : PartySet) (P : Party) (room u : ℕ) 
   pub at_stopped : seat ≡ Stopped → IsAt node e m P room u Away w
   unfolding attendance site_of
   at_stopped over = record { comes = λ p read b o. rw (← sits, over) }
-
--- ---- agreement
-module _ (i : ℤ) (h : PartySet) (P : ℕ) where
-  pub away_not : (a : Attendance) → a ≡ Away → false ≡ agrees i h P (told a)
-  unfolding agrees
-  away_not a q = rw q
-
-  pub empty_hands : (a : Attendance) (o : Offer) (in' : Bool) → a ≡ There o → o ≡ Empty → in' ≡ member P h → not in' ≡ agrees i h P (told a)
-  unfolding agrees
-  empty_hands a o in' q z m = rw (q, z, m)
-
-  module _ (a : Attendance) (o : Offer) (j : ℤ) (k : PartySet) (there' : a ≡ There o) (brings : o ≡ Secret j k) where
-    pub not_bringer : member P h ≡ false → false ≡ agrees i h P (told a)
-    unfolding agrees
-    not_bringer m = rw (there', brings, m)
-
-    pub other_bringers : member P h ≡ true → same_set k h ≡ false → false ≡ agrees i h P (told a)
-    unfolding agrees
-    other_bringers m s = rw (there', brings, m, s)
-
-    pub same_number : (r : Bool) → member P h ≡ true → same_set k h ≡ true → r ≡ same_integer j i → r ≡ agrees i h P (told a)
-    unfolding agrees
-    same_number r m s e = rw (there', brings, m, s) e

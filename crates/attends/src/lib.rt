@@ -40,7 +40,7 @@ fn attends_from(
     if stands != e {
         return Attendance::Away;
     }
-    if !mode.is(m) {
+    if mode != m {
         return Attendance::Away;
     }
     let Invitation::To(_, offer) = site::own::invited(node, p, t, room, used, area) else {
@@ -70,6 +70,7 @@ pub fn attendance_of(
 }
 
 // What site p brings agrees with the number i and its holders h.
+#[tactic(auto, using(numbers::proofs::OperationLaws::bits_eqb), unfolding(rules::specs::Joint::agrees, parties::specs::Sets::same_set))]
 pub fn agrees(i: i32, h: PartySet, p: Party, a: Attendance) -> bool
     ensures { result ≡ agrees i h p.index (told a) }
 {
@@ -80,7 +81,7 @@ pub fn agrees(i: i32, h: PartySet, p: Party, a: Attendance) -> bool
         return !h.has(p);
     };
     if h.has(p) {
-        if k.is(h) {
+        if k == h {
             return j == i;
         }
     }

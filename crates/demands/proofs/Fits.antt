@@ -49,7 +49,7 @@ kind_fits : (w : View) (m : PartySet) (vs : List Value) (e : Node) → OfKind w 
 kind_fits w m vs (VAR x) = tt
 kind_fits w m vs (INT i) = tt
 kind_fits w m vs (OP o x y) = λ s i j. tt
-kind_fits w m vs (MUX x y z) = λ s t u i j k f g h. tt
+kind_fits w m vs (MUX x y z) = λ a b c f g h. tt
 kind_fits w m vs READ = λ one. tt
 kind_fits w m vs (WRITE x) = λ i h. tt
 kind_fits w m vs (EMBED x) = λ i h. tt

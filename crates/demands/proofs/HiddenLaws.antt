@@ -1,7 +1,7 @@
 -- Hiding the numbers inside shares: what a rule does, but for such numbers, does not depend on them. Assumes nothing.
 use Prim.Native.Nat.{ℕ}
 use mathlib.Core.Path.{◌≡◌, refl}
-use mathlib.Core.Bool.{Bool, true, false, ◌&&◌, cond}
+use mathlib.Core.Bool.{Bool, true, false, ◌&&◌, cond, beq}
 use mathlib.Core.List.{List, map}
 use lib.Dec.{eqb}
 use lib.IntN.{ℤ, pos}
@@ -13,14 +13,14 @@ use Rattle.parties.specs.declared.sets.PartySet.{PartySet}
 use Rattle.values.specs.Values.{place, moved, restrict, held, had_by}
 use Rattle.values.specs.declared.value.Value.{Value}
 use Rattle.values.specs.declared.value.Value.TheVariants.{Nothing, Clear, Share}
+use Rattle.std.specs.Prelude.{Option, Some, None}
 use Rattle.values.specs.declared.value.Held.{Held}
-use Rattle.values.specs.declared.value.Held.TheVariants.{Number, Other}
 use Rattle.nodes.specs.Nodes.{operation_of}
 use Rattle.nodes.specs.declared.Node.{Node}
 use Rattle.nodes.specs.declared.Node.TheVariants.{VAR, INT, OP, MUX, READ, WRITE, EMBED, SHARE, REVEAL, LET, CASE, PAR, CALL}
 use Rattle.refusals.specs.Numbers.{wrong_value, wrong_mode}
 use Rattle.rules.specs.Names.{Names, Looked, found, unbound, look_all, names_of, first, second, third}
-use Rattle.rules.specs.Rules.{unless, on_two, on_three, mux, if_clear, giver_shares, other_shares, at_share, holder_opens, at_reveal, judge, with_values, rule}
+use Rattle.rules.specs.Rules.{unless, hands_back, on_two, on_three, mux, if_clear, giver_shares, other_shares, at_share, holder_opens, at_reveal, judge, with_values, rule}
 use Rattle.rules.specs.declared.effects.View.{View}
 use Rattle.rules.specs.declared.effects.View.TheVariants.{Whole, Site}
 use Rattle.rules.specs.declared.effects.Move.{Move}
@@ -55,9 +55,9 @@ hide_effect Reads = Reads
 hide_effect (Writes i) = Writes i
 hide_effect (Meets mt o) = Meets mt Empty
 
-abbrev hide_held : Held → Held
-hide_held (Number s i) = Number s (cond s (pos 0) i)
-hide_held Other = Other
+abbrev hide_held : Option Held → Option Held
+hide_held (Some x) = Some (record { secret = x.secret; number = cond x.secret (pos 0) x.number })
+hide_held None = None
 
 -- ---- values
 
@@ -81,43 +81,56 @@ unfolding held
 hide_held_lem m Nothing = refl
 hide_held_lem m (Clear i l) = go (same_set l m)
   where
-    go : (t : Bool) → cond t (Number false i) Other ≡ hide_held (cond t (Number false i) Other)
+    go : (t : Bool) → cond t (Some (record { secret = false; number = i })) None ≡ hide_held (cond t (Some (record { secret = false; number = i })) None)
     go true = refl
     go false = refl
 hide_held_lem m (Share i h l) = go (same_set l m && same_set h m)
   where
-    go : (t : Bool) → cond t (Number true (pos 0)) Other ≡ hide_held (cond t (Number true i) Other)
+    go : (t : Bool) → cond t (Some (record { secret = true; number = pos 0 })) None ≡ hide_held (cond t (Some (record { secret = true; number = i })) None)
     go true = refl
     go false = refl
 
 -- ---- effects
 
-two_hide : (m : PartySet) (f : ℤ → ℤ → ℤ) (g h : Held) → hide_effect (on_two m f (hide_held g) (hide_held h)) ≡ hide_effect (on_two m f g h)
+two_hide : (m : PartySet) (f : ℤ → ℤ → ℤ) (g h : Option Held) → hide_effect (on_two m f (hide_held g) (hide_held h)) ≡ hide_effect (on_two m f g h)
 unfolding had_by
-two_hide m f (Number true i) (Number true j) = refl
-two_hide m f (Number true i) (Number false j) = refl
-two_hide m f (Number false i) (Number true j) = refl
-two_hide m f (Number false i) (Number false j) = refl
-two_hide m f (Number s i) Other = refl
-two_hide m f Other h = refl
+two_hide m f (Some x) (Some y) = go x.secret y.secret
+  where
+    over : (s t : Bool) → ℤ → Effect
+    over s t n = hide_effect (unless wrong_value (beq s t) (hands_back (had_by m s n)))
+    go : (s t : Bool) → over s t (f (cond s (pos 0) x.number) (cond t (pos 0) y.number)) ≡ over s t (f x.number y.number)
+    go true true = refl
+    go true false = refl
+    go false true = refl
+    go false false = refl
+two_hide m f (Some x) None = refl
+two_hide m f None h = refl
 
-three_hide : (m : PartySet) (f : ℤ → ℤ → ℤ → ℤ) (g h k : Held)
+three_hide : (m : PartySet) (f : ℤ → ℤ → ℤ → ℤ) (g h k : Option Held)
     → hide_effect (on_three m f (hide_held g) (hide_held h) (hide_held k)) ≡ hide_effect (on_three m f g h k)
 unfolding had_by
-three_hide m f (Number true i) (Number true j) (Number true k) = refl
-three_hide m f (Number true i) (Number true j) (Number false k) = refl
-three_hide m f (Number true i) (Number false j) (Number u k) = refl
-three_hide m f (Number false i) (Number true j) (Number u k) = refl
-three_hide m f (Number false i) (Number false j) (Number true k) = refl
-three_hide m f (Number false i) (Number false j) (Number false k) = refl
-three_hide m f (Number s i) (Number t j) Other = refl
-three_hide m f (Number s i) Other k = refl
-three_hide m f Other h k = refl
+three_hide m f (Some x) (Some y) (Some z) = go x.secret y.secret z.secret
+  where
+    over : (s t u : Bool) → ℤ → Effect
+    over s t u n = hide_effect (unless wrong_value (beq s t && beq s u) (hands_back (had_by m s n)))
+    go : (s t u : Bool) → over s t u (f (cond s (pos 0) x.number) (cond t (pos 0) y.number) (cond u (pos 0) z.number)) ≡ over s t u (f x.number y.number z.number)
+    go true true true = refl
+    go true true false = refl
+    go true false u = refl
+    go false true u = refl
+    go false false true = refl
+    go false false false = refl
+three_hide m f (Some x) (Some y) None = refl
+three_hide m f (Some x) None k = refl
+three_hide m f None h k = refl
 
-clear_hide : (g : Held) (k : ℤ → Effect) → if_clear (hide_held g) k ≡ if_clear g k
-clear_hide (Number true i) k = refl
-clear_hide (Number false i) k = refl
-clear_hide Other k = refl
+clear_hide : (g : Option Held) (k : ℤ → Effect) → if_clear (hide_held g) k ≡ if_clear g k
+clear_hide None k = refl
+clear_hide (Some x) k = go x.secret
+  where
+    go : (s : Bool) → cond s (Refuse wrong_value) (k (cond s (pos 0) x.number)) ≡ cond s (Refuse wrong_value) (k x.number)
+    go true = refl
+    go false = refl
 
 -- two meetings in which all but the offer is the same
 unless_hide : (s t : Bool) (mt : Meeting) (o o' : Offer)

@@ -110,7 +110,7 @@ module _ (P : ℕ) (m : PartySet) (outside : member P m ≡ false) where
   kind_quiet vs h (VAR x) = h 0
   kind_quiet vs h (INT i) = clear_quiet i
   kind_quiet vs h (OP o x y) = λ s i j. had_quiet s (operate (operation_of o) i j)
-  kind_quiet vs h (MUX x y z) = λ s t u i j k f g e. had_quiet s (mux i j k)
+  kind_quiet vs h (MUX x y z) = λ a b c f g e. had_quiet a.secret (mux a.number b.number c.number)
   kind_quiet vs h READ = λ one. tt
   kind_quiet vs h (WRITE x) = λ i e. tt
   kind_quiet vs h (EMBED x) = λ i e. share_quiet i

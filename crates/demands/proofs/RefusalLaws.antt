@@ -25,7 +25,7 @@ kind_refuses : (w : View) (m : PartySet) (vs : List Value) (e : Node) → OfKind
 kind_refuses w m vs (VAR x) = tt
 kind_refuses w m vs (INT i) = tt
 kind_refuses w m vs (OP o x y) = λ s i j. tt
-kind_refuses w m vs (MUX x y z) = λ s t u i j k f g h. tt
+kind_refuses w m vs (MUX x y z) = λ a b c f g h. tt
 kind_refuses w m vs READ = λ one. tt
 kind_refuses w m vs (WRITE x) = λ i h. tt
 kind_refuses w m vs (EMBED x) = λ i h. tt

@@ -14,8 +14,8 @@ use Rattle.parties.specs.declared.sets.PartySet.{PartySet}
 use Rattle.values.specs.Values.{place, moved, restrict, slice, held, had_by}
 use Rattle.values.specs.declared.value.Value.{Value}
 use Rattle.values.specs.declared.value.Value.TheVariants.{Nothing, Clear, Share}
+use Rattle.std.specs.Prelude.{Option, Some, None}
 use Rattle.values.specs.declared.value.Held.{Held}
-use Rattle.values.specs.declared.value.Held.TheVariants.{Number, Other}
 use Rattle.nodes.specs.Nodes.{operation_of}
 use Rattle.nodes.specs.declared.Node.{Node}
 use Rattle.nodes.specs.declared.Node.TheVariants.{VAR, INT, OP, MUX, READ, WRITE, EMBED, SHARE, REVEAL, LET, CASE, PAR, CALL}
@@ -133,21 +133,24 @@ module _ (P : ℕ) (m : PartySet) (inside : member P m ≡ true) where
   result_slice true false i = rw clear_slice
   result_slice false s i = refl
 
-  two_slice : (f : ℤ → ℤ → ℤ) (g h : Held) → on_two m f g h ≡ slice_effect P (on_two m f g h)
-  two_slice f (Number s i) (Number t j) = result_slice (beq s t) s (f i j)
-  two_slice f (Number s i) Other = refl
-  two_slice f Other h = refl
+  two_slice : (f : ℤ → ℤ → ℤ) (g h : Option Held) → on_two m f g h ≡ slice_effect P (on_two m f g h)
+  two_slice f (Some x) (Some y) = result_slice (beq x.secret y.secret) x.secret (f x.number y.number)
+  two_slice f (Some x) None = refl
+  two_slice f None h = refl
 
-  three_slice : (f : ℤ → ℤ → ℤ → ℤ) (g h j : Held) → on_three m f g h j ≡ slice_effect P (on_three m f g h j)
-  three_slice f (Number s i) (Number t j) (Number u k) = result_slice (beq s t && beq s u) s (f i j k)
-  three_slice f (Number s i) (Number t j) Other = refl
-  three_slice f (Number s i) Other h = refl
-  three_slice f Other g h = refl
+  three_slice : (f : ℤ → ℤ → ℤ → ℤ) (g h j : Option Held) → on_three m f g h j ≡ slice_effect P (on_three m f g h j)
+  three_slice f (Some x) (Some y) (Some z) = result_slice (beq x.secret y.secret && beq x.secret z.secret) x.secret (f x.number y.number z.number)
+  three_slice f (Some x) (Some y) None = refl
+  three_slice f (Some x) None h = refl
+  three_slice f None g h = refl
 
-  if_clear_slice : (g : Held) (k : ℤ → Effect) → ((i : ℤ) → k i ≡ slice_effect P (k i)) → if_clear g k ≡ slice_effect P (if_clear g k)
-  if_clear_slice (Number true i) k e = refl
-  if_clear_slice (Number false i) k e = e i
-  if_clear_slice Other k e = refl
+  if_clear_slice : (g : Option Held) (k : ℤ → Effect) → ((i : ℤ) → k i ≡ slice_effect P (k i)) → if_clear g k ≡ slice_effect P (if_clear g k)
+  if_clear_slice None k e = refl
+  if_clear_slice (Some x) k e = go x.secret
+    where
+      go : (s : Bool) → cond s (Refuse wrong_value) (k x.number) ≡ slice_effect P (cond s (Refuse wrong_value) (k x.number))
+      go true = refl
+      go false = e x.number
 
   unless_slice : (refusal : ℕ) (t : Bool) (e : Effect) → e ≡ slice_effect P e → unless refusal t e ≡ slice_effect P (unless refusal t e)
   unless_slice k true e h = h

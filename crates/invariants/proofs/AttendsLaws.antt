@@ -38,7 +38,7 @@ kind_meets : (P : ℕ) (m : PartySet) (vs : List Value) (e : Node) → OfKind (s
 kind_meets P m vs (VAR x) = tt
 kind_meets P m vs (INT i) = tt
 kind_meets P m vs (OP o x y) = λ s i j. tt
-kind_meets P m vs (MUX x y z) = λ s t u i j k f g h. tt
+kind_meets P m vs (MUX x y z) = λ a b c f g h. tt
 kind_meets P m vs READ = λ one. tt
 kind_meets P m vs (WRITE x) = λ i h. tt
 kind_meets P m vs (EMBED x) = λ i h. tt

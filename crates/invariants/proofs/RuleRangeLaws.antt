@@ -20,8 +20,8 @@ use Rattle.cells.specs.Cells.{RangedValue}
 use Rattle.cells.specs.Cells as Cells
 use Rattle.values.specs.declared.value.Value.{Value}
 use Rattle.values.specs.declared.value.Value.TheVariants.{Nothing, Clear, Share}
+use Rattle.std.specs.Prelude.{Option, Some, None}
 use Rattle.values.specs.declared.value.Held.{Held}
-use Rattle.values.specs.declared.value.Held.TheVariants.{Number, Other}
 use Rattle.nodes.specs.Nodes.{operation_of}
 use Rattle.nodes.specs.declared.Node.{Node}
 use Rattle.nodes.specs.declared.Node.TheVariants.{VAR, INT, OP, MUX, READ, WRITE, EMBED, SHARE, REVEAL, LET, CASE, PAR, CALL}
@@ -93,21 +93,21 @@ looked_ranged m b (x ∷ xs) r = go (look m b x) (look_all m b xs) (look_ranged 
 
 -- ---- rules
 
-abbrev RangedHeld : Held → Type 0
-RangedHeld (Number secret i) = SFits w32 i
-RangedHeld Other = Unit {0}
+abbrev RangedHeld : Option Held → Type 0
+RangedHeld (Some x) = SFits w32 x.number
+RangedHeld None = Unit {0}
 
 held_ranged : (m : PartySet) (v : Value) → RangedValue v → RangedHeld (held m v)
 unfolding held
 held_ranged m Nothing r = tt
 held_ranged m (Clear i l) r = go (same_set l m)
   where
-    go : (t : Bool) → RangedHeld (cond t (Number false i) Other)
+    go : (t : Bool) → RangedHeld (cond t (Some (record { secret = false; number = i })) None)
     go true = r.0
     go false = tt
 held_ranged m (Share i h l) r = go (same_set l m && same_set h m)
   where
-    go : (t : Bool) → RangedHeld (cond t (Number true i) Other)
+    go : (t : Bool) → RangedHeld (cond t (Some (record { secret = true; number = i })) None)
     go true = r.0
     go false = tt
 
@@ -129,17 +129,17 @@ module _ (m : PartySet) (s : Short m) where
     value : (k : ℕ) → RangedValue (get_or vs k Nothing)
     value k = every_at RangedValue vs k Nothing r tt
 
-    number : (k : ℕ) (secret : Bool) (i : ℤ) → held m (get_or vs k Nothing) ≡ Number secret i → SFits w32 i
-    number k secret i e = subst RangedHeld e (held_ranged m (get_or vs k Nothing) (value k))
+    number : (k : ℕ) (x : Held) → held m (get_or vs k Nothing) ≡ Some x → SFits w32 x.number
+    number k x e = subst RangedHeld e (held_ranged m (get_or vs k Nothing) (value k))
 
     kind_ranged : (e : Node) → RangedNode e → OfKind w m RangedEffect vs e
     kind_ranged (VAR x) n = value 0
     kind_ranged (INT i) n = (n, s)
     kind_ranged (OP o x y) n = λ t i j. had_ranged t (operate (operation_of o) i j) (operate_fits (operation_of o) i j)
-    kind_ranged (MUX x y z) n = λ t u v i j k f g h. had_ranged t (mux i j k) (mux_fits i j k (number 1 u j g) (number 2 v k h))
+    kind_ranged (MUX x y z) n = λ x y z f g h. had_ranged x.secret (mux x.number y.number z.number) (mux_fits x.number y.number z.number (number 1 y g) (number 2 z h))
     kind_ranged READ n = λ one. tt
-    kind_ranged (WRITE x) n = λ i h. number 0 false i h
-    kind_ranged (EMBED x) n = λ i h. (number 0 false i h, s, s)
+    kind_ranged (WRITE x) n = λ i h. number 0 _ h
+    kind_ranged (EMBED x) n = λ i h. (number 0 _ h, s, s)
     kind_ranged (SHARE a q x) n = (λ i l f g. (n, (subst RangedValue f (value 0)).0), at_site w (λ g. (n, tt)))
     kind_ranged (REVEAL q x) n = (λ i h l f g. (n, (subst RangedValue f (value 0)).0), at_site w (n, tt))
     kind_ranged (LET x e1 e2) n = n

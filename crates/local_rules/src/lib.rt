@@ -12,9 +12,10 @@ ghost use Rattle.local_rules.specs.Handed.{clear_in};
 
 use parties::sets::PartySet;
 use rules::effects::{Effect, Move};
-use values::value::{Held, Value};
+use values::value::Value;
 
 // m has one party: the count of ones of its bits.
+#[tactic(auto, unfolding(rules::specs::Rules::alone))]
 fn alone(m: PartySet) -> bool
     ensures { result ≡ alone m }
 {
@@ -24,21 +25,17 @@ fn alone(m: PartySet) -> bool
 pub fn op(o: u8, x: Value, y: Value, m: PartySet) -> Effect
     ensures { result ≡ on_two m (operate (operation_of o)) (held m x) (held m y) }
 {
-    let Held::Number(s, i) = x.held(m) else {
-        return Effect::Refuse(refusals::WRONG_VALUE);
-    };
-    let Held::Number(t, j) = y.held(m) else {
-        return Effect::Refuse(refusals::WRONG_VALUE);
-    };
-    if s == t {
-        let n = nodes::operation_of(o).of(i, j);
-        Effect::Goes(Move::Hand(Value::had_by(m, s, n)))
-    } else {
-        Effect::Refuse(refusals::WRONG_VALUE)
+    match (x.held(m), y.held(m)) {
+        (Some(x), Some(y)) if x.secret == y.secret => {
+            let n = nodes::operation_of(o).of(x.number, y.number);
+            Effect::Goes(Move::Hand(Value::had_by(m, x.secret, n)))
+        }
+        _ => Effect::Refuse(refusals::WRONG_VALUE),
     }
 }
 
 // y where x is not 0, else z.
+#[tactic(auto, using(crate::proofs::RuleLaws::is_zero, crate::proofs::RuleLaws::not_zero), unfolding(rules::specs::Rules::mux))]
 fn chosen(x: i32, y: i32, z: i32) -> i32
     ensures { result ≡ mux x y z }
 {
@@ -48,22 +45,13 @@ fn chosen(x: i32, y: i32, z: i32) -> i32
 pub fn mux(x: Value, y: Value, z: Value, m: PartySet) -> Effect
     ensures { result ≡ on_three m mux (held m x) (held m y) (held m z) }
 {
-    let Held::Number(s, i) = x.held(m) else {
-        return Effect::Refuse(refusals::WRONG_VALUE);
-    };
-    let Held::Number(t, j) = y.held(m) else {
-        return Effect::Refuse(refusals::WRONG_VALUE);
-    };
-    let Held::Number(u, k) = z.held(m) else {
-        return Effect::Refuse(refusals::WRONG_VALUE);
-    };
-    if s == t {
-        if s == u {
-            let n = chosen(i, j, k);
-            return Effect::Goes(Move::Hand(Value::had_by(m, s, n)));
+    match (x.held(m), y.held(m), z.held(m)) {
+        (Some(x), Some(y), Some(z)) if x.secret == y.secret && x.secret == z.secret => {
+            let n = chosen(x.number, y.number, z.number);
+            Effect::Goes(Move::Hand(Value::had_by(m, x.secret, n)))
         }
+        _ => Effect::Refuse(refusals::WRONG_VALUE),
     }
-    Effect::Refuse(refusals::WRONG_VALUE)
 }
 
 pub fn read(m: PartySet) -> Effect
@@ -77,25 +65,17 @@ pub fn read(m: PartySet) -> Effect
 }
 
 // What a rule that wants x clear at exactly m sees of it.
-#[derive(Clone, Copy)]
-enum Clear {
-    Is(i32),
-    Not,
-}
-
-fn clear_at(x: Value, m: PartySet) -> Clear
+fn clear_at(x: Value, m: PartySet) -> Option<i32>
     ensures { result ≡ clear_in (held m x) }
 {
-    let Held::Number(secret, i) = x.held(m) else {
-        return Clear::Not;
-    };
-    if secret { Clear::Not } else { Clear::Is(i) }
+    let seen = x.held(m)?;
+    if seen.secret { None } else { Some(seen.number) }
 }
 
 pub fn write(x: Value, m: PartySet) -> Effect
     ensures { result ≡ if_clear (held m x) (λ i. unless wrong_mode (alone m) (Effect.Writes i)) }
 {
-    let Clear::Is(i) = clear_at(x, m) else {
+    let Some(i) = clear_at(x, m) else {
         return Effect::Refuse(refusals::WRONG_VALUE);
     };
     if alone(m) {
@@ -108,17 +88,17 @@ pub fn write(x: Value, m: PartySet) -> Effect
 pub fn embed(x: Value, m: PartySet) -> Effect
     ensures { result ≡ if_clear (held m x) (λ i. hands_back (Share i m m)) }
 {
-    let Clear::Is(i) = clear_at(x, m) else {
+    let Some(i) = clear_at(x, m) else {
         return Effect::Refuse(refusals::WRONG_VALUE);
     };
     Effect::Goes(Move::Hand(Value::Share(i, m, m)))
 }
 
-#[tactic(auto, using(crate::proofs::RuleLaws::case_zero, crate::proofs::RuleLaws::case_other))]
+#[tactic(auto, using(crate::proofs::RuleLaws::is_zero, crate::proofs::RuleLaws::not_zero))]
 pub fn case(x: Value, m: PartySet, e1: u16, e2: u16) -> Effect
     ensures { result ≡ if_clear (held m x) (λ i. Effect.Goes (Move.Goto (cond (same_integer i (pos 0)) e2 e1))) }
 {
-    let Clear::Is(i) = clear_at(x, m) else {
+    let Some(i) = clear_at(x, m) else {
         return Effect::Refuse(refusals::WRONG_VALUE);
     };
     if i == 0 {

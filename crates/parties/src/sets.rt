@@ -2,11 +2,11 @@
 ghost use Rattle.std.specs.Prelude.{◌≡◌, Bool, ◌<◌, ◌≤◌};
 ghost use Rattle.std.specs.Iterator.{at_most};
 ghost use Rattle.limits.specs.Limits.{max_parties};
-ghost use Rattle.parties.specs.Sets.{member, meet, join, is_empty, same_set, count, lowest, rest, only, all, within, make_up, GivesLowest};
+ghost use Rattle.parties.specs.Sets.{member, meet, join, is_empty, count, lowest, rest, only, all, within, make_up, GivesLowest};
 
 use limits::Party;
 
-#[derive(Clone, Copy)]
+#[derive(Clone, Copy, PartialEq, Eq)]
 pub struct PartySet {
     pub bits: u16,
 }
@@ -43,12 +43,6 @@ impl PartySet {
         ensures { result ≡ is_empty self }
     {
         self.bits == 0
-    }
-
-    pub fn is(self, t: PartySet) -> bool
-        ensures { result ≡ same_set self t }
-    {
-        self.bits == t.bits
     }
 
     // How many parties are in the set.
@@ -96,11 +90,12 @@ impl PartySet {
     }
 
     // a and q together are exactly this set.
+    #[tactic(auto, using(crate::proofs::BitLaws::none_made), unfolding(crate::specs::Sets::make_up, crate::specs::Sets::same_set))]
     pub fn made_up_by(self, a: Party, q: PartySet) -> bool
         ensures { result ≡ make_up a.index q self }
     {
         if a.index < Party::MAX {
-            self.is(PartySet::only(a).join(q))
+            self == PartySet::only(a).join(q)
         } else {
             false
         }

@@ -42,13 +42,14 @@ fn other_shares(m: PartySet, a: Party, q: PartySet) -> Effect
     }
 }
 
+#[tactic(auto, unfolding(rules::specs::Rules::at_share))]
 pub fn share(view: View, m: PartySet, a: Party, q: PartySet, x: Value) -> Effect
     ensures { result ≡ at_share view m a q x }
 {
     match view {
         View::Whole => giver_shares(m, a, q, x),
         View::Site(p) => {
-            if p.index == a.index {
+            if p == a {
                 giver_shares(m, a, q, x)
             } else {
                 other_shares(m, a, q)
@@ -57,6 +58,7 @@ pub fn share(view: View, m: PartySet, a: Party, q: PartySet, x: Value) -> Effect
     }
 }
 
+#[tactic(auto, unfolding(rules::specs::Rules::holder_opens, parties::specs::Sets::same_set))]
 fn holder_opens(m: PartySet, q: PartySet, x: Value) -> Effect
     ensures { result ≡ holder_opens m q x }
 {
@@ -64,8 +66,8 @@ fn holder_opens(m: PartySet, q: PartySet, x: Value) -> Effect
         Value::Nothing => Effect::Refuse(refusals::WRONG_VALUE),
         Value::Clear(_, _) => Effect::Refuse(refusals::WRONG_VALUE),
         Value::Share(i, h, l) => {
-            if l.is(h) {
-                if h.join(q).is(m) {
+            if l == h {
+                if h.join(q) == m {
                     return Effect::Meets(Meeting::Revealing(q), Offer::Secret(i, h));
                 }
                 return Effect::Refuse(refusals::WRONG_MODE);

@@ -1,6 +1,6 @@
 -- What a rule can ask for, kind by kind. What holds of the refusals 5 to 7 and of what its kind can ask for holds of the rule. Assumes nothing.
-use Rattle.std.specs.Prelude.{ℕ, ◌≡◌, Bool, cond, ◌&&◌, List, eqb, ℤ, pos}
-use Rattle.std.proofs.Math.Path.{refl}
+use Rattle.std.specs.Prelude.{ℕ, ◌≡◌, Bool, cond, ◌&&◌, List, eqb, ℤ, pos, Option, Some, None}
+use Rattle.std.proofs.Math.Path.{refl, ap}
 use Rattle.std.proofs.Common.{◌∙◌, eqb-true}
 use Rattle.std.proofs.Math.Bool.{true, false}
 use Rattle.std.specs.Bool.{beq}
@@ -13,7 +13,6 @@ use Rattle.values.specs.Values.{held, had_by}
 use Rattle.values.specs.declared.value.Value.{Value}
 use Rattle.values.specs.declared.value.Value.TheVariants.{Nothing, Clear, Share}
 use Rattle.values.specs.declared.value.Held.{Held}
-use Rattle.values.specs.declared.value.Held.TheVariants.{Number, Other}
 use Rattle.nodes.specs.Nodes.{operation_of}
 use Rattle.nodes.specs.declared.Node.{Node}
 use Rattle.nodes.specs.declared.Node.TheVariants.{VAR, INT, OP, MUX, READ, WRITE, EMBED, SHARE, REVEAL, LET, CASE, PAR, CALL}
@@ -39,10 +38,10 @@ OfKind w m H vs (VAR x) = H (hands_back (first vs))
 OfKind w m H vs (INT i) = H (hands_back (Clear i m))
 OfKind w m H vs (OP o x y) = (s : Bool) (i j : ℤ) → H (hands_back (had_by m s (operate (operation_of o) i j)))
 OfKind w m H vs (MUX x y z) =
-    (s t u : Bool) (i j k : ℤ) → held m (first vs) ≡ Number s i → held m (second vs) ≡ Number t j → held m (third vs) ≡ Number u k → H (hands_back (had_by m s (mux i j k)))
+    (a b c : Held) → held m (first vs) ≡ Some a → held m (second vs) ≡ Some b → held m (third vs) ≡ Some c → H (hands_back (had_by m a.secret (mux a.number b.number c.number)))
 OfKind w m H vs READ = count m ≡ 1 → H Reads
-OfKind w m H vs (WRITE x) = (i : ℤ) → held m (first vs) ≡ Number false i → H (Writes i)
-OfKind w m H vs (EMBED x) = (i : ℤ) → held m (first vs) ≡ Number false i → H (hands_back (Share i m m))
+OfKind w m H vs (WRITE x) = (i : ℤ) → held m (first vs) ≡ Some (record { secret = false; number = i }) → H (Writes i)
+OfKind w m H vs (EMBED x) = (i : ℤ) → held m (first vs) ≡ Some (record { secret = false; number = i }) → H (hands_back (Share i m m))
 OfKind w m H vs (SHARE a q x) =
     ((i : ℤ) (l : PartySet) → first vs ≡ Clear i l → make_up a.index q m ≡ true → H (Meets (Sharing a q) (Secret i (only a.index))))
     × AtSite w (make_up a.index q m ≡ true → H (Meets (Sharing a q) Empty))
@@ -63,22 +62,25 @@ module _ (m : PartySet) (H : Effect → Type 0) (value : H (Refuse wrong_value))
   unless_holds refusal true e r h = h refl
   unless_holds refusal false e r h = r
 
-  two_holds : (f : ℤ → ℤ → ℤ) (g h : Held) → ((s : Bool) (i j : ℤ) → H (hands_back (had_by m s (f i j)))) → H (on_two m f g h)
-  two_holds f (Number s i) (Number t j) k = unless_holds wrong_value (beq s t) _ value (λ e. k s i j)
-  two_holds f (Number s i) Other k = value
-  two_holds f Other h k = value
+  two_holds : (f : ℤ → ℤ → ℤ) (x y : Option Held) → ((s : Bool) (i j : ℤ) → H (hands_back (had_by m s (f i j)))) → H (on_two m f x y)
+  two_holds f (Some x) (Some y) k = unless_holds wrong_value (beq x.secret y.secret) _ value (λ e. k x.secret x.number y.number)
+  two_holds f (Some x) None k = value
+  two_holds f None y k = value
 
-  three_holds : (f : ℤ → ℤ → ℤ → ℤ) (x y z : Held)
-      → ((s t u : Bool) (i j k : ℤ) → x ≡ Number s i → y ≡ Number t j → z ≡ Number u k → H (hands_back (had_by m s (f i j k)))) → H (on_three m f x y z)
-  three_holds f (Number s i) (Number t j) (Number u k) l = unless_holds wrong_value (beq s t && beq s u) _ value (λ e. l s t u i j k refl refl refl)
-  three_holds f (Number s i) (Number t j) Other l = value
-  three_holds f (Number s i) Other z l = value
-  three_holds f Other y z l = value
+  three_holds : (f : ℤ → ℤ → ℤ → ℤ) (x y z : Option Held)
+      → ((a b c : Held) → x ≡ Some a → y ≡ Some b → z ≡ Some c → H (hands_back (had_by m a.secret (f a.number b.number c.number)))) → H (on_three m f x y z)
+  three_holds f (Some a) (Some b) (Some c) l = unless_holds wrong_value (beq a.secret b.secret && beq a.secret c.secret) _ value (λ e. l a b c refl refl refl)
+  three_holds f (Some a) (Some b) None l = value
+  three_holds f (Some a) None z l = value
+  three_holds f None y z l = value
 
-  clear_holds : (x : Held) (k : ℤ → Effect) → ((i : ℤ) → x ≡ Number false i → H (k i)) → H (if_clear x k)
-  clear_holds (Number true i) k h = value
-  clear_holds (Number false i) k h = h i refl
-  clear_holds Other k h = value
+  clear_holds : (x : Option Held) (k : ℤ → Effect) → ((i : ℤ) → x ≡ Some (record { secret = false; number = i }) → H (k i)) → H (if_clear x k)
+  clear_holds None k h = value
+  clear_holds (Some a) k h = go a.secret refl
+    where
+      go : (s : Bool) → a.secret ≡ s → H (cond s (Refuse wrong_value) (k a.number))
+      go true e = value
+      go false e = h a.number (ap (λ (s : Bool). Some (record { secret = s; number = a.number })) e)
 
   module _ (a : Party) (q : PartySet) where
     giver_holds : (v : Value) → ((i : ℤ) (l : PartySet) → v ≡ Clear i l → make_up a.index q m ≡ true → H (Meets (Sharing a q) (Secret i (only a.index))))

@@ -1,9 +1,9 @@
 -- Document 01, "Rules of one step": what a node does in a mode, with the names bound. One function serves the single run, which sees whole
 -- values, and a site, which sees its slices. Only SHARE, REVEAL and PAR ask which of the two it is.
 -- A refusal is the lowest that fits: 5, 6, 7 here; 8, 9 and 10, of inputs, room and frames, are tried after (Single, Joint).
-use Rattle.std.specs.Prelude.{ℕ, Bool, true, false, not, ◌&&◌, cond, List, eqb, ℤ, pos}
+use Rattle.std.specs.Prelude.{ℕ, Bool, true, false, not, ◌&&◌, cond, List, eqb, ℤ, pos, Option, Some, None}
 use Rattle.std.specs.Bool.{beq}
-use Rattle.std.proofs.Math.Option.{Option, none, some}
+use Rattle.std.proofs.Math.Option.{Option as Maybe, none, some}
 use Rattle.numbers.specs.Integers.{operate, same_integer}
 use Rattle.parties.specs.Sets.{member, meet, join, is_empty, same_set, count, only, make_up}
 use Rattle.limits.specs.declared.Party.{Party}
@@ -12,7 +12,6 @@ use Rattle.values.specs.Values.{held, had_by}
 use Rattle.values.specs.declared.value.Value.{Value}
 use Rattle.values.specs.declared.value.Value.TheVariants.{Nothing, Clear, Share}
 use Rattle.values.specs.declared.value.Held.{Held}
-use Rattle.values.specs.declared.value.Held.TheVariants.{Number, Other}
 use Rattle.nodes.specs.Nodes.{operation_of}
 use Rattle.nodes.specs.declared.Node.{Node}
 use Rattle.nodes.specs.declared.Node.TheVariants.{VAR, INT, OP, MUX, READ, WRITE, EMBED, SHARE, REVEAL, LET, CASE, PAR, CALL}
@@ -38,26 +37,26 @@ hands_back v = Goes (Hand v)
 -- ---- OP, MUX, and the others that want their values at exactly m
 
 -- "all clear and at exactly m, result clear at m; or all shares with holders m at exactly m, result such a share"
-abbrev pub on_two : PartySet → (ℤ → ℤ → ℤ) → Held → Held → Effect
-on_two m f (Number s i) (Number t j) = unless wrong_value (beq s t) (hands_back (had_by m s (f i j)))
-on_two m f (Number s i) Other = Refuse wrong_value
-on_two m f Other h = Refuse wrong_value
+abbrev pub on_two : PartySet → (ℤ → ℤ → ℤ) → Option Held → Option Held → Effect
+on_two m f (Some x) (Some y) = unless wrong_value (beq x.secret y.secret) (hands_back (had_by m x.secret (f x.number y.number)))
+on_two m f (Some x) None = Refuse wrong_value
+on_two m f None y = Refuse wrong_value
 
-abbrev pub on_three : PartySet → (ℤ → ℤ → ℤ → ℤ) → Held → Held → Held → Effect
-on_three m f (Number s i) (Number t j) (Number u k) = unless wrong_value (beq s t && beq s u) (hands_back (had_by m s (f i j k)))
-on_three m f (Number s i) (Number t j) Other = Refuse wrong_value
-on_three m f (Number s i) Other h = Refuse wrong_value
-on_three m f Other g h = Refuse wrong_value
+abbrev pub on_three : PartySet → (ℤ → ℤ → ℤ → ℤ) → Option Held → Option Held → Option Held → Effect
+on_three m f (Some x) (Some y) (Some z) =
+    unless wrong_value (beq x.secret y.secret && beq x.secret z.secret) (hands_back (had_by m x.secret (f x.number y.number z.number)))
+on_three m f (Some x) (Some y) None = Refuse wrong_value
+on_three m f (Some x) None z = Refuse wrong_value
+on_three m f None y z = Refuse wrong_value
 
 -- "MUX is y where x is not 0, else z."
 unfoldable pub mux : ℤ → ℤ → ℤ → ℤ
 mux x y z = cond (same_integer x (pos 0)) z y
 
 -- "x clear at exactly m"
-abbrev pub if_clear : Held → (ℤ → Effect) → Effect
-if_clear (Number true i) k = Refuse wrong_value
-if_clear (Number false i) k = k i
-if_clear Other k = Refuse wrong_value
+abbrev pub if_clear : Option Held → (ℤ → Effect) → Effect
+if_clear (Some x) k = cond x.secret (Refuse wrong_value) (k x.number)
+if_clear None k = Refuse wrong_value
 
 -- "m has one party"
 unfoldable pub alone : PartySet → Bool
@@ -131,7 +130,7 @@ unfoldable pub rule : View → Node → PartySet → Names → Effect
 rule w e m b = with_values (look_all m b (names_of e)) λ vs. judge w e m vs
 
 -- the meeting that a node asks for, where it is a joint one
-abbrev pub joint_meeting : Node → Option Meeting
+abbrev pub joint_meeting : Node → Maybe Meeting
 joint_meeting (VAR x) = none
 joint_meeting (INT i) = none
 joint_meeting (OP o x y) = none

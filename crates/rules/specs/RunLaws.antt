@@ -39,7 +39,7 @@ kind_sound : (m : PartySet) (vs : List Value) (e : Node) → OfKind Whole m (Sou
 kind_sound m vs (VAR x) = tt
 kind_sound m vs (INT i) = tt
 kind_sound m vs (OP o x y) = λ s i j. tt
-kind_sound m vs (MUX x y z) = λ s t u i j k f g h. tt
+kind_sound m vs (MUX x y z) = λ a b c f g h. tt
 kind_sound m vs READ = λ one. one
 kind_sound m vs (WRITE x) = λ i h. tt
 kind_sound m vs (EMBED x) = λ i h. tt

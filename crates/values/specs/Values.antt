@@ -1,11 +1,10 @@
 -- Document 01, "Values and modes".
-use Rattle.std.specs.Prelude.{ℕ, Bool, true, false, ◌&&◌, cond, ℤ}
+use Rattle.std.specs.Prelude.{ℕ, Bool, true, false, ◌&&◌, cond, ℤ, Option, Some, None}
 use Rattle.parties.specs.Sets.{none, member, meet, is_empty, same_set}
 use Rattle.parties.specs.declared.sets.PartySet.{PartySet}
 use Rattle.values.specs.declared.value.Value.{Value}
 use Rattle.values.specs.declared.value.Value.TheVariants.{Nothing, Clear, Share}
 use Rattle.values.specs.declared.value.Held.{Held}
-use Rattle.values.specs.declared.value.Held.TheVariants.{Number, Other}
 
 -- the set l that a value is at; nothing is nowhere
 unfoldable pub place : Value → PartySet
@@ -28,10 +27,10 @@ unfoldable pub slice : ℕ → Value → Value
 slice P v = cond (member P (place v)) v Nothing
 
 -- "clear and at exactly m", "shares with holders m at exactly m", or neither
-unfoldable pub held : PartySet → Value → Held
-held m Nothing = Other
-held m (Clear i l) = cond (same_set l m) (Number false i) Other
-held m (Share i h l) = cond (same_set l m && same_set h m) (Number true i) Other
+unfoldable pub held : PartySet → Value → Option Held
+held m Nothing = None
+held m (Clear i l) = cond (same_set l m) (Some (record { secret = false; number = i })) None
+held m (Share i h l) = cond (same_set l m && same_set h m) (Some (record { secret = true; number = i })) None
 
 -- "result clear at m", "result such a share"
 unfoldable pub had_by : PartySet → Bool → ℤ → Value

@@ -16,10 +16,9 @@ pub enum Value {
 
 // What a rule that wants a value at exactly m sees of it.
 #[derive(Clone, Copy)]
-pub enum Held {
-    // whether it is secret, and the integer
-    Number(bool, i32),
-    Other,
+pub struct Held {
+    pub secret: bool,
+    pub number: i32,
 }
 
 impl Value {
@@ -66,25 +65,31 @@ impl Value {
         }
     }
 
-    pub fn held(self, m: PartySet) -> Held
+    #[tactic(auto, unfolding(crate::specs::Values::held, parties::specs::Sets::same_set))]
+    pub fn held(self, m: PartySet) -> Option<Held>
         ensures { result ≡ held m self }
     {
         match self {
-            Value::Nothing => Held::Other,
+            Value::Nothing => None,
             Value::Clear(i, l) => {
-                if l.is(m) {
-                    Held::Number(false, i)
+                if l == m {
+                    Some(Held {
+                        secret: false,
+                        number: i,
+                    })
                 } else {
-                    Held::Other
+                    None
                 }
             }
             Value::Share(i, h, l) => {
-                if l.is(m) {
-                    if h.is(m) {
-                        return Held::Number(true, i);
-                    }
+                if l == m && h == m {
+                    Some(Held {
+                        secret: true,
+                        number: i,
+                    })
+                } else {
+                    None
                 }
-                Held::Other
             }
         }
     }

@@ -1,24 +1,26 @@
 -- `attends::attends_from` meets its contract. Assumes nothing.
-use mathlib.Core.Bool.{not}
-use mathlib.Core.Path.{ap}
 use mathlib.Core.Path.{sym, ◌∙◌}
 use borrow.Author.Tests.{not-true, not-false}
+use Rattle.parties.specs.Sets.{same_set}
 use Rattle.attends.proofs.AttendLaws.{at_node, at_mode, at_not, at_there}
 use Rattle.attends.proofs.attends_from.Goals as goal
 
 pub returns-then-stands-e : goal.returns-then-stands-e
 returns-then-stands-e c = let a = c.args in at_node a.node a.t a.e a.m a.p a.room a.used a.area.now c.if-stands-e.true
 
-pub returns-then-not-is : goal.returns-then-not-is
-returns-then-not-is c = let a = c.args in at_mode a.node a.t a.e a.m a.p a.room a.used a.area.now c.if-stands-e.false (sym c.is.ensures ∙ not-true c.is.result (ap not c.if-not-is.true))
+pub returns-then-ne : goal.returns-then-ne
+unfolding same_set
+returns-then-ne c = let a = c.args in at_mode a.node a.t a.e a.m a.p a.room a.used a.area.now c.if-stands-e.false (not-true _ (sym c.ne.ensures ∙ c.if-ne.true))
 
 pub invited-requires : goal.invited-requires
 invited-requires c = c.requires
 
 pub returns-in_default : goal.returns-in_default
+unfolding same_set
 returns-in_default c = let a = c.args in
-    at_not a.node a.t a.e a.m a.p a.room a.used a.area.now c.if-stands-e.false (sym c.is.ensures ∙ not-false c.is.result (ap not c.if-not-is.false)) c.invited.result c.invited.ensures c.in_default.is
+    at_not a.node a.t a.e a.m a.p a.room a.used a.area.now c.if-stands-e.false (not-false _ (sym c.ne.ensures ∙ c.if-ne.false)) c.invited.result c.invited.ensures c.in_default.is
 
 pub returns : goal.returns
+unfolding same_set
 returns c = let a = c.args in
-    at_there a.node a.t a.e a.m a.p a.room a.used a.area.now c.if-stands-e.false (sym c.is.ensures ∙ not-false c.is.result (ap not c.if-not-is.false)) c.invited.result c.invited.ensures _ _ c.in-To.is
+    at_there a.node a.t a.e a.m a.p a.room a.used a.area.now c.if-stands-e.false (not-false _ (sym c.ne.ensures ∙ c.if-ne.false)) c.invited.result c.invited.ensures _ _ c.in-To.is
