@@ -15,10 +15,11 @@ returns-then-not-is c = let a = c.args in at_mode a.node a.t a.e a.m a.p a.room 
 pub invited-requires : goal.invited-requires
 invited-requires c = c.requires
 
-pub returns-in_default : goal.returns-in_default
-returns-in_default c = let a = c.args in
-    at_not a.node a.t a.e a.m a.p a.room a.used a.area.now c.if-stands-e.false (sym c.is.ensures ∙ not-false c.is.result (ap not c.if-not-is.false)) c.invited.result c.invited.ensures c.in_default.is
+pub returns-in_err-invitation : goal.returns-in_err-invitation
+returns-in_err-invitation c = let a = c.args in
+    rw c.from_residual.ensures
+    (at_not a.node a.t a.e a.m a.p a.room a.used a.area.now c.if-stands-e.false (sym c.is.ensures ∙ not-false c.is.result (ap not c.if-not-is.false)) c.invited.result c.invited.ensures c.in_err-invitation.was)
 
 pub returns : goal.returns
 returns c = let a = c.args in
-    at_there a.node a.t a.e a.m a.p a.room a.used a.area.now c.if-stands-e.false (sym c.is.ensures ∙ not-false c.is.result (ap not c.if-not-is.false)) c.invited.result c.invited.ensures _ _ c.in-To.is
+    at_there a.node a.t a.e a.m a.p a.room a.used a.area.now c.if-stands-e.false (sym c.is.ensures ∙ not-false c.is.result (ap not c.if-not-is.false)) c.invited.result c.invited.ensures _ c.in_ok-invitation.was
