@@ -20,12 +20,14 @@ brings-requires c =
     let here = left_here _ _ (omega arith) c.loop-node.invariant c.is_empty.ensures (rw members (below_within _ _)) (ap not c.loop-node-test.true) c.lowest-p.ensures in
     (omega (arith, here.below), omega (arith, here.below))
 
-pub returns-in_default : goal.returns-in_default
-returns-in_default c =
+pub returns-in_err-brought : goal.returns-in_err-brought
+returns-in_err-brought c =
     let members = c.meet-left.ensures ∙ ap (meet c.args.m) c.all.ensures in
     let here = left_here _ _ (omega arith) c.loop-node.invariant c.is_empty.ensures (rw members (below_within _ _)) (ap not c.loop-node-test.true) c.lowest-p.ensures in
     let inside = below_in _ c.args.m c.args.n members c.lowest-p.result here.below ∙ here.inside in
-    let a = c.args in gather_missing a.node a.e a.m a.n a.room a.lengths.now a.work.now c.lowest-p.result c.loop-node.brought here.below inside c.brings.result c.brings.ensures c.in_default.is
+    let a = c.args in
+    rw c.from_residual.ensures
+    (gather_missing a.node a.e a.m a.n a.room a.lengths.now a.work.now c.lowest-p.result c.loop-node.brought here.below inside c.brings.result c.brings.ensures c.in_err-brought.was)
 
 pub loop-node-smaller : goal.loop-node-smaller
 loop-node-smaller c =
@@ -40,7 +42,7 @@ loop-node-preserved c =
     let inside = below_in _ c.args.m c.args.n members c.lowest-p.result here.below ∙ here.inside in
     let a = c.args in
     left_next _ _ here c.rest-left.ensures (gather_passes a.node a.e a.m a.n a.room a.lengths.now a.work.now _ members _)
-    (gather_more a.node a.e a.m a.n a.room a.lengths.now a.work.now c.lowest-p.result c.loop-node.brought here.below inside c.brings.result c.brings.ensures _ c.in-All.is here.so_far)
+    (gather_more a.node a.e a.m a.n a.room a.lengths.now a.work.now c.lowest-p.result c.loop-node.brought here.below inside c.brings.result c.brings.ensures _ c.in_ok-brought.was here.so_far)
 
 pub returns : goal.returns
 returns c = let a = c.args in gather_all a.node a.e a.m a.n a.room a.lengths.now a.work.now c.loop-node.brought (left_over _ _ (omega arith) c.loop-node.invariant c.is_empty.ensures (ap not c.loop-node-test.false))
