@@ -5,13 +5,13 @@ use mathlib.Core.List.{List}
 use Prim.Native.Nat.{ℕ}
 use borrow.Author.Tests.{ne_eqb, eq-eqb}
 use lib.IntN.{ℤ}
+use Rattle.std.specs.Prelude.{Option, Some, None}
 use Rattle.numbers.specs.Integers.{same_integer}
 use Rattle.parties.specs.Sets.{member, same_set}
 use Rattle.limits.specs.declared.Party.{Party}
 use Rattle.parties.specs.declared.sets.PartySet.{PartySet}
 use Rattle.nodes.specs.declared.JointNode.{JointNode}
 use Rattle.rules.specs.Joint.{attendance, agrees}
-use Rattle.rules.specs.declared.effects.Meeting.{Meeting}
 use Rattle.rules.specs.declared.effects.Offer.{Offer}
 use Rattle.rules.specs.declared.effects.Offer.TheVariants.{Empty, Secret}
 use Rattle.area.specs.Levels.{control_of}
@@ -22,44 +22,41 @@ use Rattle.seats.specs.declared.Seat.TheVariants.{Running, Finished, Stopped}
 use Rattle.site.specs.Own.{Invites}
 use Rattle.attends.specs.Attends.{told, AttendsFrom, IsAt}
 use Rattle.site.specs.declared.own.Invitation.{Invitation}
-use Rattle.site.specs.declared.own.Invitation.TheVariants.{Not, To}
-use Rattle.attends.specs.declared.Attendance.{Attendance}
-use Rattle.attends.specs.declared.Attendance.TheVariants.{Away, There}
 
 -- ---- a site that stands at t
 module _ (node : JointNode) (t : Stand) (e : ℕ) (m : PartySet) (P : Party) (room u : ℕ) (w : List ℕ) where
-  pub at_node : (t.node ≡ e → ⊥) → AttendsFrom node t e m P room u Away w
+  pub at_node : (t.node ≡ e → ⊥) → AttendsFrom node t e m P room u None w
   unfolding attendance control_of
   at_node h = record { comes = λ p read b o. rw (ne_eqb t.node e h) }
 
   module _ (same : t.node ≡ e) where
-    pub at_mode : same_set t.mode m ≡ false → AttendsFrom node t e m P room u Away w
+    pub at_mode : same_set t.mode m ≡ false → AttendsFrom node t e m P room u None w
     unfolding attendance control_of
     at_mode h = record { comes = λ p read b o. rw (eq-eqb t.node e same, h) }
 
-    module _ (mode : same_set t.mode m ≡ true) (r : Invitation) (invites : Invites node P t room u r w) where
-      pub at_not : r ≡ Not → AttendsFrom node t e m P room u Away w
+    module _ (mode : same_set t.mode m ≡ true) (r : Option Invitation) (invites : Invites node P t room u r w) where
+      pub at_not : r ≡ None → AttendsFrom node t e m P room u None w
       unfolding attendance control_of
       at_not q =
-          let no : Invites node P t room u Not w = rw q at invites in
+          let no : Invites node P t room u None w = rw q at invites in
           record { comes = λ p read b o. rw (eq-eqb t.node e same, mode, (no.comes p (rw same read) b o).1) }
 
-      pub at_there : (mt : Meeting) (o : Offer) → r ≡ To mt o → AttendsFrom node t e m P room u (There o) w
+      pub at_there : (i : Invitation) → r ≡ Some i → AttendsFrom node t e m P room u (Some i.offer) w
       unfolding attendance control_of
-      at_there mt o q =
-          let to : Invites node P t room u (To mt o) w = rw q at invites in
+      at_there i q =
+          let to : Invites node P t room u (Some i) w = rw q at invites in
           record { comes = λ p read b u. rw (eq-eqb t.node e same, mode, to.comes p (rw same read) b u) }
 
 -- ---- any site
 module _ (node : JointNode) (e : ℕ) (m : PartySet) (P : Party) (room u : ℕ) (w : List ℕ) (seat : Seat) (sits : seat ≡ seat_at w) where
-  pub at_running : (t : Stand) (r : Attendance) → seat ≡ Running t → AttendsFrom node t e m P room u r w → IsAt node e m P room u r w
+  pub at_running : (t : Stand) (r : Option Offer) → seat ≡ Running t → AttendsFrom node t e m P room u r w → IsAt node e m P room u r w
   unfolding site_of
   at_running t r runs a = record { comes = λ p read b o. rw (← sits, runs) (a.comes p read b o) }
 
-  pub at_finished : seat ≡ Finished → IsAt node e m P room u Away w
+  pub at_finished : seat ≡ Finished → IsAt node e m P room u None w
   unfolding attendance site_of
   at_finished over = record { comes = λ p read b o. rw (← sits, over) }
 
-  pub at_stopped : seat ≡ Stopped → IsAt node e m P room u Away w
+  pub at_stopped : seat ≡ Stopped → IsAt node e m P room u None w
   unfolding attendance site_of
   at_stopped over = record { comes = λ p read b o. rw (← sits, over) }

@@ -13,15 +13,8 @@ use nodes::JointNode;
 use parties::sets::PartySet;
 use rules::effects::Offer;
 use seats::Seat;
-use site::own::Invitation;
 
-#[derive(Clone, Copy)]
-pub enum Attendance {
-    Away,
-    There(Offer),
-}
-
-// Site p, which stands at t, is at the node e in mode m and passes its own checks, or is away.
+// What site p, which stands at t, brings if it is at the node e in mode m and passes its own checks; else it is away.
 fn attends_from(
     node: JointNode,
     t: Stand,
@@ -31,22 +24,20 @@ fn attends_from(
     room: usize,
     used: usize,
     area: &[u8],
-) -> Attendance
+) -> Option<Offer>
     requires { (t.depth.frames ≤ max_frames) × (row_size ≤ length area.now) }
     ensures { AttendsFrom node t e m p room used result area.now }
 {
     let stands = t.node;
     let mode = t.mode;
     if stands != e {
-        return Attendance::Away;
+        return None;
     }
     if mode != m {
-        return Attendance::Away;
+        return None;
     }
-    let Invitation::To(_, offer) = site::own::invited(node, p, t, room, used, area) else {
-        return Attendance::Away;
-    };
-    Attendance::There(offer)
+    let invitation = site::own::invited(node, p, t, room, used, area)?;
+    Some(invitation.offer)
 }
 
 // The same of any site. One that is over is away, and nobody is told whether it finished or stopped.
@@ -58,23 +49,23 @@ pub fn attendance_of(
     room: usize,
     used: usize,
     area: &[u8],
-) -> Attendance
+) -> Option<Offer>
     requires { row_size ≤ length area.now }
     ensures { IsAt node e m p room used result area.now }
 {
     match seats::load_seat(area) {
         Seat::Running(t) => attends_from(node, t, e, m, p, room, used, area),
-        Seat::Finished => Attendance::Away,
-        Seat::Stopped => Attendance::Away,
+        Seat::Finished => None,
+        Seat::Stopped => None,
     }
 }
 
-// What site p brings agrees with the number i and its holders h.
+// What site p brings, if it is there, agrees with the number i and its holders h.
 #[tactic(auto, using(numbers::proofs::OperationLaws::bits_eqb), unfolding(rules::specs::Joint::agrees, parties::specs::Sets::same_set))]
-pub fn agrees(i: i32, h: PartySet, p: Party, a: Attendance) -> bool
+pub fn agrees(i: i32, h: PartySet, p: Party, a: Option<Offer>) -> bool
     ensures { result ≡ agrees i h p.index (told a) }
 {
-    let Attendance::There(offer) = a else {
+    let Some(offer) = a else {
         return false;
     };
     let Offer::Secret(j, k) = offer else {

@@ -6,6 +6,7 @@ use Prim.Native.Nat.{ℕ, ◌+◌, ◌<◌}
 use native.Mathlib.Numerals.{add-one}
 use borrow.Author.Tests.{not-true, not-false}
 use lib.IntN.{ℤ}
+use Rattle.std.specs.Prelude.{Option, Some, None}
 use lib.ListN.{get_or}
 use Rattle.parties.specs.Sets.{member, meet, all}
 use Rattle.parties.specs.SetLaws.{below_member}
@@ -14,23 +15,19 @@ use Rattle.parties.specs.declared.sets.PartySet.{PartySet}
 use Rattle.parties.proofs.LoopLaws.{Passes}
 use Rattle.nodes.specs.declared.JointNode.{JointNode}
 use Rattle.rules.specs.Single.{all_of}
-use Rattle.rules.specs.Joint as Joint
-use Rattle.rules.specs.Joint.{Site, away, there, attendance, is_there, or_else, brought, agrees, all_agree, book_of}
+use Rattle.rules.specs.Joint.{Site, Attendance, away, there, attendance, is_there, or_else, brought, agrees, all_agree, book_of}
 use Rattle.rules.specs.declared.effects.Meeting.{Meeting}
 use Rattle.rules.specs.declared.effects.Meeting.TheVariants.{Sharing, Revealing}
 use Rattle.rules.specs.declared.effects.Offer.{Offer}
 use Rattle.rules.specs.declared.effects.Offer.TheVariants.{Empty}
 use Rattle.invariants.proofs.AllOfLaws.{passes, all_none, all_more, all_lack}
 use Rattle.attends.specs.Attends.{told, IsAt}
-use Rattle.attends.specs.declared.Attendance.{Attendance}
 use Rattle.area.specs.Rows.{area_of}
 use Rattle.meets.specs.Places.{setting_of}
 use Rattle.meets.specs.Meets.{Attends, adding, gathered, Brings, MemberAgrees, Sitting, present, Gathers, AllAgree, Agreed}
-use Rattle.meets.specs.declared.present.Gathered.{Gathered}
-use Rattle.meets.specs.declared.present.Gathered.TheVariants.{Missing, All}
 
 -- ---- one site
-module _ (node : JointNode) (e : ℕ) (m : PartySet) (P room : ℕ) (lengths work : List ℕ) (a : Attendance) where
+module _ (node : JointNode) (e : ℕ) (m : PartySet) (P room : ℕ) (lengths work : List ℕ) (a : Option Offer) where
   pub attends_told : IsAt node e m (record { index = P }) room (get_or lengths P 0) a (area_of P work) → Attends node e m P room a lengths work
   attends_told at =
       record {
@@ -38,22 +35,22 @@ module _ (node : JointNode) (e : ℕ) (m : PartySet) (P room : ℕ) (lengths wor
       }
 
   module _ (at : Attends node e m P room a lengths work) where
-    pub brings_told : (before : Offer) (r : Gathered) → r ≡ adding before (told a) → Brings node e m P room before r lengths work
+    pub brings_told : (before : Offer) (r : Option Offer) → r ≡ adding before (told a) → Brings node e m P room before r lengths work
     brings_told before r q = record { comes = λ p read s z. rw (← at.comes p read s z) q }
 
     pub agrees_told : (i : ℤ) (h : PartySet) (r : Bool) → r ≡ agrees i h P (told a) → MemberAgrees node e m P room i h r lengths work
     agrees_told i h r q = record { comes = λ p read s z. rw (← at.comes p read s z) q }
 
 -- ---- what one member adds
-added_there : (f : Joint.Attendance) (before more : Offer) → All more ≡ adding before f → is_there f ≡ true
+added_there : (f : Attendance) (before more : Offer) → Some more ≡ adding before f → is_there f ≡ true
 added_there away before more q = cc
 added_there (there o) before more q = refl
 
-added_is : (f : Joint.Attendance) (before more : Offer) → All more ≡ adding before f → more ≡ or_else f before
+added_is : (f : Attendance) (before more : Offer) → Some more ≡ adding before f → more ≡ or_else f before
 added_is away before more q = cc
 added_is (there o) before more q = cc
 
-added_none : (f : Joint.Attendance) (before : Offer) → Missing ≡ adding before f → is_there f ≡ false
+added_none : (f : Attendance) (before : Offer) → None ≡ adding before f → is_there f ≡ false
 added_none away before q = refl
 added_none (there o) before q = cc
 
@@ -85,15 +82,15 @@ module _ (node : JointNode) (e : ℕ) (m : PartySet) (n room : ℕ) (lengths wor
   unfolding brought
   gather_none = record { all = λ Z. all_none m (λ P. is_there (present Z room m P)); brings = λ Z. refl }
 
-  pub gather_all : (o : Offer) → Gathering o n → Gathers node e m n room (All o) lengths work
+  pub gather_all : (o : Offer) → Gathering o n → Gathers node e m n room (Some o) lengths work
   unfolding gathered
   gather_all o so_far = record { comes = λ Z. rw (so_far.all Z, ← so_far.brings Z) }
 
-  module _ (k : ℕ) (o : Offer) (below : k < n) (inside : member k m ≡ true) (r : Gathered) (one : Brings node e m k room o r lengths work) where
+  module _ (k : ℕ) (o : Offer) (below : k < n) (inside : member k m ≡ true) (r : Option Offer) (one : Brings node e m k room o r lengths work) where
     one_is : (Z : Sitting node e n lengths work) → r ≡ adding o (present Z room m k)
     one_is Z = one.comes Z.program Z.read (Z.sites k) (Z.sits k below)
 
-    pub gather_more : (more : Offer) → r ≡ All more → Gathering o k → Gathering more (k + 1)
+    pub gather_more : (more : Offer) → r ≡ Some more → Gathering o k → Gathering more (k + 1)
     unfolding brought
     gather_more more s so_far =
         record {
@@ -101,7 +98,7 @@ module _ (node : JointNode) (e : ℕ) (m : PartySet) (n room : ℕ) (lengths wor
           brings = λ Z. rw (add-one, inside, ← so_far.brings Z) (added_is (present Z room m k) o more (sym s ∙ one_is Z));
         }
 
-    pub gather_missing : r ≡ Missing → Gathers node e m n room Missing lengths work
+    pub gather_missing : r ≡ None → Gathers node e m n room None lengths work
     unfolding gathered
     gather_missing s =
         record { comes = λ Z. rw (← all_lack m (λ P. is_there (present Z room m P)) n k below (rw inside (added_none (present Z room m k) o (sym s ∙ one_is Z)))) }

@@ -5,20 +5,12 @@ ghost use Rattle.area.specs.Rows.{row_size};
 ghost use Rattle.meets.specs.Meets.{Attends, Brings, Gathers, MemberAgrees, AllAgree, Agreed};
 
 use area::stand::ROW;
-use attends::Attendance;
 use limits::Party;
 use nodes::JointNode;
 use parties::sets::PartySet;
 use rules::effects::{Meeting, Offer};
 
-// What the members bring, or that one is away.
-#[derive(Clone, Copy)]
-pub enum Gathered {
-    Missing,
-    All(Offer),
-}
-
-// Whether site p is at the node e in mode m, by its own area and the length of its own record.
+// What site p brings if it is at the node e in mode m, by its own area and the length of its own record.
 fn attendance_at(
     node: JointNode,
     e: u16,
@@ -27,7 +19,7 @@ fn attendance_at(
     room: usize,
     lengths: &[usize],
     work: &[u8],
-) -> Attendance
+) -> Option<Offer>
     requires { (p < length lengths.now) × (p * row_size + row_size ≤ length work.now) }
     ensures { Attends node e m p room result lengths.now work.now }
 {
@@ -39,7 +31,7 @@ fn attendance_at(
     attends::attendance_of(node, e, m, party, room, used, &work[from..to])
 }
 
-// With what was brought before: what the member p brings, or that it is away.
+// With what was brought before: what the member p brings, if it is there.
 fn brings(
     node: JointNode,
     e: u16,
@@ -49,20 +41,18 @@ fn brings(
     before: Offer,
     lengths: &[usize],
     work: &[u8],
-) -> Gathered
+) -> Option<Offer>
     requires { (p < length lengths.now) × (p * row_size + row_size ≤ length work.now) }
     ensures { Brings node e m p room before result lengths.now work.now }
 {
-    let Attendance::There(offer) = attendance_at(node, e, m, p, room, lengths, work) else {
-        return Gathered::Missing;
+    let offer = attendance_at(node, e, m, p, room, lengths, work)?;
+    let Offer::Secret(_, _) = offer else {
+        return Some(before);
     };
-    let Offer::Secret(number, bringers) = offer else {
-        return Gathered::All(before);
-    };
-    Gathered::All(Offer::Secret(number, bringers))
+    Some(offer)
 }
 
-// All members of m are at the node e, and what they bring; or one is away.
+// What the members of m bring, if all of them are at the node e.
 pub fn gather(
     node: JointNode,
     e: u16,
@@ -71,18 +61,15 @@ pub fn gather(
     room: usize,
     lengths: &[usize],
     work: &[u8],
-) -> Gathered
+) -> Option<Offer>
     requires { (n ≤ max_parties) × (n ≤ length lengths.now) × (n * row_size ≤ length work.now) }
     ensures { Gathers node e m n room result lengths.now work.now }
 {
     let mut brought = Offer::Empty;
     for p in m.meet(PartySet::all(n)).members() {
-        let Gathered::All(more) = brings(node, e, m, p, room, brought, lengths, work) else {
-            return Gathered::Missing;
-        };
-        brought = more;
+        brought = brings(node, e, m, p, room, brought, lengths, work)?;
     }
-    Gathered::All(brought)
+    Some(brought)
 }
 
 // The member p agrees with the number and its holders.

@@ -4,10 +4,10 @@ use mathlib.Core.Bool.{Bool, true, false}
 use mathlib.Core.List.{List, [], ◌∷◌}
 use mathlib.Core.Option.{some}
 use Prim.Native.Nat.{ℕ}
-use native.Mathlib.Omega.{arith}
 use denote.Enum.{Declared.tag_of}
 use types.Run.{OneOf, miss}
 use lib.IntN.{pos}
+use Rattle.std.specs.Prelude.{Option, Some, None}
 use Rattle.limits.specs.declared.Party.{Party}
 use Rattle.parties.specs.declared.sets.PartySet.{PartySet}
 use Rattle.program.specs.Check.{Program, node_at}
@@ -40,7 +40,6 @@ use Rattle.site.specs.Own.{acted, own_of, Weighs, Owns, meeting_of, Invites}
 use Rattle.site.specs.declared.own.Own.{Own}
 use Rattle.site.specs.declared.own.Own.TheVariants.{Acts, Attends}
 use Rattle.site.specs.declared.own.Invitation.{Invitation}
-use Rattle.site.specs.declared.own.Invitation.TheVariants.{Not, To}
 
 -- ---- an effect that is no meeting
 pub no_meeting : (effect : Effect) → OneOf (0 ∷ 1 ∷ 2 ∷ 3 ∷ []) (tag_of the_type effect) → Unmet effect
@@ -50,26 +49,26 @@ no_meeting Reads h = tt
 no_meeting (Writes i) h = tt
 no_meeting (Meets mt o) h = miss (0 ∷ 1 ∷ 2 ∷ 3 ∷ []) 4 tt h
 
-pub not_met : (effect : Effect) → Unmet effect → Not ≡ meeting_of effect
+pub not_met : (effect : Effect) → Unmet effect → None ≡ meeting_of effect
 not_met (Refuse r) h = refl
 not_met (Goes mv) h = refl
 not_met Reads h = refl
 not_met (Writes i) h = refl
 not_met (Meets mt o) h = absurd h
 
-invites_none : (effect : Effect) → Not ≡ meeting_of effect → Unmet effect
+invites_none : (effect : Effect) → None ≡ meeting_of effect → Unmet effect
 invites_none (Refuse r) h = tt
 invites_none (Goes mv) h = tt
 invites_none Reads h = tt
 invites_none (Writes i) h = tt
-invites_none (Meets mt o) h = let z : ◌≡◌ {A = ℕ} 0 1 = cc in omega arith
+invites_none (Meets mt o) h = cc
 
-is_meeting : (mt : Meeting) (o : Offer) (effect : Effect) → To mt o ≡ meeting_of effect → effect ≡ Meets mt o
-is_meeting mt o (Refuse r) h = absurd (let z : ◌≡◌ {A = ℕ} 0 1 = cc in omega arith)
-is_meeting mt o (Goes mv) h = absurd (let z : ◌≡◌ {A = ℕ} 0 1 = cc in omega arith)
-is_meeting mt o Reads h = absurd (let z : ◌≡◌ {A = ℕ} 0 1 = cc in omega arith)
-is_meeting mt o (Writes i) h = absurd (let z : ◌≡◌ {A = ℕ} 0 1 = cc in omega arith)
-is_meeting mt o (Meets nt p) h = cc
+is_meeting : (i : Invitation) (effect : Effect) → Some i ≡ meeting_of effect → effect ≡ Meets i.meeting i.offer
+is_meeting i (Refuse r) h = cc
+is_meeting i (Goes mv) h = cc
+is_meeting i Reads h = cc
+is_meeting i (Writes j) h = cc
+is_meeting i (Meets nt p) h = cc
 
 acts_alone : (S : Setting) (P : ℕ) (c : Control) (b : Book) (effect : Effect) → Unmet effect → perform_own S P c b effect ≡ acts (acted S P c b effect)
 unfolding perform_own acted
@@ -133,11 +132,11 @@ module _ (P : Party) (t : Stand) (room u : ℕ) (w : List ℕ) where
           asked = k.asked (subst Asked (sym asks) (joint_asked (Site P) node t.mode (names_at w t.depth.frames)));
         }
 
-    module _ (i : Invitation) (asks : i ≡ meeting_of (joint_rule (Site P) node t.mode (names_at w t.depth.frames))) where
-      invited_as : (p : Program) → node ≡ joint_node (node_at p t.node) → i ≡ meeting_of (rule_of (Site P) (node_at p t.node) t w)
+    module _ (r : Option Invitation) (asks : r ≡ meeting_of (joint_rule (Site P) node t.mode (names_at w t.depth.frames))) where
+      invited_as : (p : Program) → node ≡ joint_node (node_at p t.node) → r ≡ meeting_of (rule_of (Site P) (node_at p t.node) t w)
       invited_as p same = (rw same at asks) ∙ same_meeting (Site P) (node_at p t.node) t.mode (names_at w t.depth.frames)
 
-      pub invites_not : i ≡ Not → Invites node P t room u Not w
+      pub invites_not : r ≡ None → Invites node P t room u None w
       invites_not h =
           record {
             comes = λ p same b q.
@@ -146,20 +145,20 @@ module _ (P : Party) (t : Stand) (room u : ℕ) (w : List ℕ) where
                 (_, owned effect (Acts effect) p b refl (weighs_acts P.index effect room u none) q);
           }
 
-      module _ (mt : Meeting) (o : Offer) (meets : i ≡ To mt o) (has : Bool) (room-is : has ≡ has_room room u (event_for P.index (event_of mt (pos 0)))) where
-        meets_at : (p : Program) → node ≡ joint_node (node_at p t.node) → rule_of (Site P) (node_at p t.node) t w ≡ Meets mt o
-        meets_at p same = is_meeting mt o (rule_of (Site P) (node_at p t.node) t w) (sym meets ∙ invited_as p same)
+      module _ (i : Invitation) (meets : r ≡ Some i) (has : Bool) (room-is : has ≡ has_room room u (event_for P.index (event_of i.meeting (pos 0)))) where
+        meets_at : (p : Program) → node ≡ joint_node (node_at p t.node) → rule_of (Site P) (node_at p t.node) t w ≡ Meets i.meeting i.offer
+        meets_at p same = is_meeting i (rule_of (Site P) (node_at p t.node) t w) (sym meets ∙ invited_as p same)
 
-        pub invites_to : has ≡ true → Invites node P t room u (To mt o) w
+        pub invites_to : has ≡ true → Invites node P t room u (Some i) w
         invites_to h =
             record {
               comes = λ p same b q.
-                  owned (Meets mt o) (Attends mt o) p b (sym (meets_at p same)) (weighs_attends P.index (Meets mt o) room u mt o refl has room-is h) q;
+                  owned (Meets i.meeting i.offer) (Attends i.meeting i.offer) p b (sym (meets_at p same)) (weighs_attends P.index (Meets i.meeting i.offer) room u i.meeting i.offer refl has room-is h) q;
             }
 
-        pub invites_lacks : has ≡ false → Invites node P t room u Not w
+        pub invites_lacks : has ≡ false → Invites node P t room u None w
         invites_lacks h =
             record {
               comes = λ p same b q.
-                  (_, owned (Meets mt o) (Acts (Refuse no_room)) p b (sym (meets_at p same)) (weighs_lacks P.index (Meets mt o) room u mt o refl has room-is h) q);
+                  (_, owned (Meets i.meeting i.offer) (Acts (Refuse no_room)) p b (sym (meets_at p same)) (weighs_lacks P.index (Meets i.meeting i.offer) room u i.meeting i.offer refl has room-is h) q);
             }

@@ -1,5 +1,5 @@
 -- What a site's own rule asks of it, in the rules' terms.
-use Rattle.std.specs.Prelude.{◌≡◌, ℕ, List, pos}
+use Rattle.std.specs.Prelude.{◌≡◌, ℕ, List, pos, Option, Some, None}
 use Rattle.std.proofs.Math.Option.{none, some}
 use Rattle.limits.specs.declared.Party.{Party}
 use Rattle.values.specs.declared.value.Value.TheVariants.{Clear}
@@ -22,7 +22,6 @@ use Rattle.advance.specs.Advances.{Asked}
 use Rattle.site.specs.declared.own.Own.{Own}
 use Rattle.site.specs.declared.own.Own.TheVariants.{Acts, Attends}
 use Rattle.site.specs.declared.own.Invitation.{Invitation}
-use Rattle.site.specs.declared.own.Invitation.TheVariants.{Not, To}
 
 -- the site after an effect that it does by itself
 unfoldable pub acted : Setting → ℕ → Control → Book → Effect → Site
@@ -61,19 +60,19 @@ pub record Owns (node : JointNode) (P : Party) (t : Stand) (room length' : ℕ) 
   pub asked : AskedOwn r
 
 -- the meeting that an effect is, if it is one
-abbrev pub meeting_of : Effect → Invitation
-meeting_of (Refuse refusal) = Not
-meeting_of (Goes mv) = Not
-meeting_of Reads = Not
-meeting_of (Writes i) = Not
-meeting_of (Meets mt o) = To mt o
+abbrev pub meeting_of : Effect → Option Invitation
+meeting_of (Refuse refusal) = None
+meeting_of (Goes mv) = None
+meeting_of Reads = None
+meeting_of (Writes i) = None
+meeting_of (Meets mt o) = Some (record { meeting = mt; offer = o })
 
 -- what it says of a site that it is invited or not
-abbrev pub Says : Invitation → Joint.Own → Type 0
-Says Not x = (s : Site) × (x ≡ acts s)
-Says (To mt o) x = x ≡ attends mt o
+abbrev pub Says : Option Invitation → Joint.Own → Type 0
+Says None x = (s : Site) × (x ≡ acts s)
+Says (Some i) x = x ≡ attends i.meeting i.offer
 
 -- the answer r to whether site P, which stands at t, passes its own checks at a node, by the bytes w of its area and the length of its record
-pub record Invites (node : JointNode) (P : Party) (t : Stand) (room length' : ℕ) (r : Invitation) (w : List ℕ) : Type 0 where
+pub record Invites (node : JointNode) (P : Party) (t : Stand) (room length' : ℕ) (r : Option Invitation) (w : List ℕ) : Type 0 where
   pub comes : (p : Program) → node ≡ joint_node (node_at p t.node) → (b : Book) → used b ≡ length'
       → Says r (own (record { program = p; room = room }) P.index (control_of t w) b)

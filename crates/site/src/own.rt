@@ -51,22 +51,22 @@ pub fn own_at(node: JointNode, p: Party, t: Stand, room: usize, used: usize, are
 
 // The meeting that a site attends.
 #[derive(Clone, Copy)]
-pub enum Invitation {
-    Not,
-    To(Meeting, Offer),
+pub struct Invitation {
+    pub meeting: Meeting,
+    pub offer: Offer,
 }
 
-fn meeting_of(effect: Effect) -> Invitation
+fn meeting_of(effect: Effect) -> Option<Invitation>
     ensures { result ≡ meeting_of effect }
 {
-    let Effect::Meets(mt, offer) = effect else {
-        return Invitation::Not;
+    let Effect::Meets(meeting, offer) = effect else {
+        return None;
     };
-    Invitation::To(mt, offer)
+    Some(Invitation { meeting, offer })
 }
 
 // The meeting that the rule of a joint node asks site p for.
-fn meeting(p: Party, node: JointNode, t: Stand, area: &[u8]) -> Invitation
+fn meeting(p: Party, node: JointNode, t: Stand, area: &[u8]) -> Option<Invitation>
     requires { (t.depth.frames ≤ max_frames) × (row_size ≤ length area.now) }
     ensures { result ≡ meeting_of (joint_rule (View.Site p) node t.mode (names_at area.now t.depth.frames)) }
 {
@@ -75,19 +75,19 @@ fn meeting(p: Party, node: JointNode, t: Stand, area: &[u8]) -> Invitation
     match node {
         JointNode::SHARE(a, q, x) => {
             let Ok(b) = lookup::seek(area, depth, m, x) else {
-                return Invitation::Not;
+                return None;
             };
             let v = b.value;
             meeting_of(party_rules::share(View::Site(p), m, a, q, v))
         }
         JointNode::REVEAL(q, x) => {
             let Ok(b) = lookup::seek(area, depth, m, x) else {
-                return Invitation::Not;
+                return None;
             };
             let v = b.value;
             meeting_of(party_rules::reveal(View::Site(p), m, q, v))
         }
-        JointNode::Neither => Invitation::Not,
+        JointNode::Neither => None,
     }
 }
 
@@ -99,15 +99,13 @@ pub fn invited(
     room: usize,
     used: usize,
     area: &[u8],
-) -> Invitation
+) -> Option<Invitation>
     requires { (t.depth.frames ≤ max_frames) × (row_size ≤ length area.now) }
     ensures { Invites node p t room used result area.now }
 {
-    let Invitation::To(mt, offer) = meeting(p, node, t, area) else {
-        return Invitation::Not;
-    };
-    if room_for(p, mt, room, used) {
-        return Invitation::To(mt, offer);
+    let invitation = meeting(p, node, t, area)?;
+    if room_for(p, invitation.meeting, room, used) {
+        return Some(invitation);
     }
-    Invitation::Not
+    None
 }

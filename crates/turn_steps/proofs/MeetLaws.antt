@@ -5,9 +5,9 @@ use mathlib.Core.List.{List}
 use mathlib.Core.Option.{some}
 use Prim.Native.Nat.{ℕ}
 use native.Mathlib.Omega.{arith}
-use Rattle.std.specs.Prelude.{Option, Some}
 use Rattle.std.specs.Bool.{then_some}
 use lib.IntN.{ℤ}
+use Rattle.std.specs.Prelude.{Option, Some, None}
 use Rattle.parties.specs.Sets.{member}
 use Rattle.parties.specs.declared.sets.PartySet.{PartySet}
 use Rattle.nodes.specs.Nodes.{joint_node}
@@ -25,19 +25,17 @@ use Rattle.meets.specs.Places.{setting_of, Given, Stands}
 use Rattle.meets.specs.Meets.{gathered, Sitting, Gathers, Agreed}
 use Rattle.concludes.specs.Concludes.{concluding, ConcludesAll}
 use Rattle.turn_steps.specs.Steps.{Meets}
-use Rattle.meets.specs.declared.present.Gathered.{Gathered}
-use Rattle.meets.specs.declared.present.Gathered.TheVariants.{Missing, All}
 use Rattle.concludes.specs.declared.Joined.{Joined}
 use Rattle.concludes.proofs.StandLaws.{stands_same, stands_sits}
 
 -- what was gathered, taken apart
-missing_not : (t : Bool) (o : Offer) → Missing ≡ cond t (All o) Missing → t ≡ false
-missing_not true o h = absurd (let z : ◌≡◌ {A = ℕ} 0 1 = cc in omega arith)
+missing_not : (t : Bool) (o : Offer) → None ≡ cond t (Some o) None → t ≡ false
+missing_not true o h = cc
 missing_not false o h = refl
 
-all_there : (t : Bool) (o x : Offer) → All x ≡ cond t (All o) Missing → (t ≡ true) × (o ≡ x)
+all_there : (t : Bool) (o x : Offer) → Some x ≡ cond t (Some o) None → (t ≡ true) × (o ≡ x)
 all_there true o x h = (refl, cc)
-all_there false o x h = absurd (let z : ◌≡◌ {A = ℕ} 0 1 = cc in omega arith)
+all_there false o x h = absurd (cc)
 
 -- a meeting of k parties
 meeting_by : (S : Setting) (e : ℕ) (m : PartySet) (mt : Meeting) (J : Sites) (k : ℕ) → S.program.parties ≡ k
@@ -73,7 +71,7 @@ module _ (S : Setting) (e : ℕ) (m : PartySet) (mt : Meeting) (i : ℤ) (asks :
       go true h = joins_concludes (J P) (h refl)
       go false h = refl
 
-module _ (node : JointNode) (e : ℕ) (m : PartySet) (mt : Meeting) (n room : ℕ) (bytes lengths work : List ℕ) (r : Gathered) (gathers : Gathers node e m n room r lengths work) where
+module _ (node : JointNode) (e : ℕ) (m : PartySet) (mt : Meeting) (n room : ℕ) (bytes lengths work : List ℕ) (r : Option Offer) (gathers : Gathers node e m n room r lengths work) where
   module _ {bs : List ℕ} {nodes : ℕ} (G : Given bs nodes room n) (J : Sites) (read : node ≡ joint_node (node_at G.program e)) (st : Stands G J bytes lengths work) where
     abbrev at : ℕ → Attendance
     at P = attendance (setting_of G.program room) e m P (J P)
@@ -81,35 +79,34 @@ module _ (node : JointNode) (e : ℕ) (m : PartySet) (mt : Meeting) (n room : �
     abbrev sitting : Sitting node e n lengths work
     sitting = record { program = G.program; read = read; sites = J; sits = λ P h. stands_sits G J J bytes lengths work st P h }
 
-    there_not : r ≡ Missing → meeting (setting_of G.program room) e m mt J ≡ idle J
+    there_not : r ≡ None → meeting (setting_of G.program room) e m mt J ≡ idle J
     unfolding gathered
     there_not q =
         let t : all_of n m (λ P. is_there (at P)) ≡ false = missing_not (all_of n m (λ P. is_there (at P))) (brought n m at) (sym q ∙ gathers.comes sitting) in
         meeting_by (setting_of G.program room) e m mt J n G.parties ∙ rw t
 
-    gathered_all : (o : Offer) → r ≡ All o → (all_of n m (λ P. is_there (at P)) ≡ true) × (brought n m at ≡ o)
+    gathered_all : (o : Offer) → r ≡ Some o → (all_of n m (λ P. is_there (at P)) ≡ true) × (brought n m at ≡ o)
     unfolding gathered
     gathered_all o q = all_there (all_of n m (λ P. is_there (at P))) (brought n m at) o (sym q ∙ gathers.comes sitting)
 
-    there_all : (o : Offer) → r ≡ All o → meeting (setting_of G.program room) e m mt J ≡ concluded (setting_of G.program room) m mt o at J
+    there_all : (o : Offer) → r ≡ Some o → meeting (setting_of G.program room) e m mt J ≡ concluded (setting_of G.program room) m mt o at J
     there_all o q =
         let t = gathered_all o q in
         meeting_by (setting_of G.program room) e m mt J n G.parties ∙ rw (t.0, t.1)
 
   -- nothing changes
-  pub meets_missing : r ≡ Missing → Meets node e m mt n room false bytes lengths work bytes lengths work
+  pub meets_missing : r ≡ None → Meets node e m mt n room false bytes lengths work bytes lengths work
   meets_missing q = record { comes = λ bs nodes G J read asks st. rw (there_not G J read st q) (st, refl) }
 
-  pub meets_empty : (o : Offer) → r ≡ All o → o ≡ Empty → Meets node e m mt n room false bytes lengths work bytes lengths work
+  pub meets_empty : r ≡ Some Empty → Meets node e m mt n room false bytes lengths work bytes lengths work
   unfolding concluded
-  meets_empty o q z = record { comes = λ bs nodes G J read asks st. rw (there_all G J read st o q, z) (st, refl) }
+  meets_empty q = record { comes = λ bs nodes G J read asks st. rw (there_all G J read st Empty q) (st, refl) }
 
-  module _ (o : Offer) (i : ℤ) (h : PartySet) (all : r ≡ All o) (brings : o ≡ Secret i h) (b : Bool) (agrees : Agreed node e m mt n room i h b lengths work) (bytes' lengths' work' : List ℕ) where
+  module _ (i : ℤ) (h : PartySet) (all : r ≡ Some (Secret i h)) (b : Bool) (agrees : Agreed node e m mt n room i h b lengths work) (bytes' lengths' work' : List ℕ) where
     module _ {bs : List ℕ} {nodes : ℕ} (G : Given bs nodes room n) (J : Sites) (read : node ≡ joint_node (node_at G.program e)) (st : Stands G J bytes lengths work) where
       agreed_is : meeting (setting_of G.program room) e m mt J ≡ counted (cond b (put_all m (joins (setting_of G.program room) i) J) (put_all m parts J))
       agreed_is =
-          there_all G J read st o all
-          ∙ ap (λ (x : Offer). concluded (setting_of G.program room) m mt x (at G J read st) J) brings
+          there_all G J read st (Secret i h) all
           ∙ concluded_by (setting_of G.program room) m mt i h (at G J read st) J n b G.parties (agrees.comes (sitting G J read st))
 
       come_to : (outcome : Option Joined) → ConcludesAll outcome m n room bytes lengths work bytes' lengths' work' → joint_meeting (node_at G.program e) ≡ some mt
@@ -117,7 +114,7 @@ module _ (node : JointNode) (e : ℕ) (m : PartySet) (mt : Meeting) (n room : �
           → Stands G (cond x (put_all m (joins (setting_of G.program room) i) J) (put_all m parts J)) bytes' lengths' work'
       come_to outcome k asks true d =
           let S : Setting = setting_of G.program room in
-          let there : all_of n m (λ P. is_there (at G J read st P)) ≡ true = (gathered_all G J read st o all).0 in
+          let there : all_of n m (λ P. is_there (at G J read st P)) ≡ true = (gathered_all G J read st (Secret i h) all).0 in
           stands_same G (put_all m (concluding (Some (to mt i)) S) J) (put_all m (joins S i) J) bytes' lengths' work' ((rw d at k).comes bs nodes G J st)
           (λ Q h. joined S e m mt i asks Q J (λ inside. all_member m (λ P. is_there (at G J read st P)) n there Q h inside))
       come_to outcome k asks false d = (rw d at k).comes bs nodes G J st

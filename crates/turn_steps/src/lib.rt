@@ -10,12 +10,12 @@ ghost use Rattle.turn_steps.specs.Steps.{once, taken_by, Meets, ActsAlone};
 use area::stand::{ROW, Stand};
 use concludes::Joined;
 use limits::Party;
-use meets::present::Gathered;
 use nodes::JointNode;
 use parties::sets::PartySet;
 use rules::effects::{Effect, Meeting, Offer};
 
 // All of the mode m meet at the node e, if they can: whether anything was done.
+#[tactic(auto, using(crate::proofs::MeetLaws::meets_missing, crate::proofs::MeetLaws::meets_empty))]
 pub fn meet(
     node: JointNode,
     e: u16,
@@ -30,10 +30,9 @@ pub fn meet(
     requires { (n ≤ max_parties) × (n * room ≤ length bytes.old) × (n ≤ length lengths.old) × (n * row_size ≤ length work.old) }
     ensures { Meets node e m mt n room result bytes.old lengths.old work.old bytes.new lengths.new work.new }
 {
-    let Gathered::All(offer) = meets::present::gather(node, e, m, n, room, lengths, work) else {
-        return false;
-    };
-    let Offer::Secret(number, holders) = offer else {
+    let Some(Offer::Secret(number, holders)) = meets::present::gather(
+        node, e, m, n, room, lengths, work,
+    ) else {
         return false;
     };
     let agreed = meets::present::agreed(node, e, m, mt, n, room, number, holders, lengths, work);

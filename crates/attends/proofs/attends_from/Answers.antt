@@ -15,12 +15,13 @@ returns-then-ne c = let a = c.args in at_mode a.node a.t a.e a.m a.p a.room a.us
 pub invited-requires : goal.invited-requires
 invited-requires c = c.requires
 
-pub returns-in_default : goal.returns-in_default
+pub returns-in_err-invitation : goal.returns-in_err-invitation
 unfolding same_set
-returns-in_default c = let a = c.args in
-    at_not a.node a.t a.e a.m a.p a.room a.used a.area.now c.if-stands-e.false (not-false _ (sym c.ne.ensures ∙ c.if-ne.false)) c.invited.result c.invited.ensures c.in_default.is
+returns-in_err-invitation c = let a = c.args in
+    rw c.from_residual.ensures
+    (at_not a.node a.t a.e a.m a.p a.room a.used a.area.now c.if-stands-e.false (not-false _ (sym c.ne.ensures ∙ c.if-ne.false)) c.invited.result c.invited.ensures c.in_err-invitation.was)
 
 pub returns : goal.returns
 unfolding same_set
 returns c = let a = c.args in
-    at_there a.node a.t a.e a.m a.p a.room a.used a.area.now c.if-stands-e.false (not-false _ (sym c.ne.ensures ∙ c.if-ne.false)) c.invited.result c.invited.ensures _ _ c.in-To.is
+    at_there a.node a.t a.e a.m a.p a.room a.used a.area.now c.if-stands-e.false (not-false _ (sym c.ne.ensures ∙ c.if-ne.false)) c.invited.result c.invited.ensures _ c.in_ok-invitation.was

@@ -18,12 +18,13 @@ brings-requires c =
     let here = left_here _ _ (omega arith) c.loop-p.invariant (below_within _ _) c.in-Some.ensures.steps in
     (omega (arith, here.below), omega (arith, here.below))
 
-pub returns-in_default : goal.returns-in_default
-returns-in_default c =
+pub returns-in_err-brought : goal.returns-in_err-brought
+returns-in_err-brought c =
     let a = c.args in
     let here = left_here _ _ (omega arith) c.loop-p.invariant (below_within _ _) c.in-Some.ensures.steps in
     let inside = below_in _ a.m a.n refl c.in-Some.p here.below ∙ here.inside in
-    gather_missing a.node a.e a.m a.n a.room a.lengths.now a.work.now c.in-Some.p c.loop-p.brought here.below inside c.brings.result c.brings.ensures c.in_default.is
+    rw c.from_residual.ensures
+    (gather_missing a.node a.e a.m a.n a.room a.lengths.now a.work.now c.in-Some.p c.loop-p.brought here.below inside c.brings.result c.brings.ensures c.in_err-brought.was)
 
 pub loop-p-preserved : goal.loop-p-preserved
 loop-p-preserved c =
@@ -31,7 +32,7 @@ loop-p-preserved c =
     let here = left_here _ _ (omega arith) c.loop-p.invariant (below_within _ _) c.in-Some.ensures.steps in
     let inside = below_in _ a.m a.n refl c.in-Some.p here.below ∙ here.inside in
     left_next _ _ here (gather_passes a.node a.e a.m a.n a.room a.lengths.now a.work.now _ refl _)
-    (gather_more a.node a.e a.m a.n a.room a.lengths.now a.work.now c.in-Some.p c.loop-p.brought here.below inside c.brings.result c.brings.ensures _ c.in-All.is here.so_far)
+    (gather_more a.node a.e a.m a.n a.room a.lengths.now a.work.now c.in-Some.p c.loop-p.brought here.below inside c.brings.result c.brings.ensures _ c.in_ok-brought.was here.so_far)
 
 pub returns : goal.returns
 returns c = let a = c.args in gather_all a.node a.e a.m a.n a.room a.lengths.now a.work.now c.loop-p.brought (left_over _ _ (omega arith) c.loop-p.invariant c.in-None.ensures.steps)
