@@ -18,7 +18,7 @@ use Rattle.values.specs.Values.{had_by}
 use Rattle.values.specs.declared.value.Value.{Value}
 use Rattle.values.specs.declared.value.Held.{Held}
 use Rattle.values.specs.declared.value.Held.TheVariants.{Number, Other}
-use Rattle.refusals.specs.Numbers.{wrong_value}
+use Rattle.refusals.specs.declared.Refusal.TheVariants.{WrongValue}
 use Rattle.rules.specs.Rules.{if_clear, hands_back}
 use Rattle.local_rules.specs.Handed.{clear_in}
 use Rattle.rules.specs.declared.effects.Effect.{Effect}
@@ -40,7 +40,7 @@ clear_is (Number true j) k i e = absurd (let z : ◌≡◌ {A = ℕ} 0 1 = cc in
 clear_is (Number false j) k i e = let q : i ≡ j = cc in rw q
 clear_is Other k i e = absurd (let z : ◌≡◌ {A = ℕ} 0 1 = cc in omega arith)
 
-pub clear_not : (h : Held) (k : ℤ → Effect) → clear_in h ≡ Not → Refuse wrong_value ≡ if_clear h k
+pub clear_not : (h : Held) (k : ℤ → Effect) → clear_in h ≡ Not → Refuse WrongValue ≡ if_clear h k
 clear_not (Number true j) k e = refl
 clear_not (Number false j) k e = absurd (let z : ◌≡◌ {A = ℕ} 0 1 = cc in omega arith)
 clear_not Other k e = refl

@@ -6,11 +6,11 @@ ghost use Rattle.numbers.specs.Integers.{operate, same_integer};
 ghost use Rattle.values.specs.Values.{held};
 ghost use Rattle.values.specs.declared.value.Value.TheVariants.{Share};
 ghost use Rattle.nodes.specs.Nodes.{operation_of};
-ghost use Rattle.refusals.specs.Numbers.{wrong_mode};
 ghost use Rattle.rules.specs.Rules.{unless, hands_back, on_two, on_three, mux, if_clear, alone};
 ghost use Rattle.local_rules.specs.Handed.{clear_in};
 
 use parties::sets::PartySet;
+use refusals::Refusal;
 use rules::effects::{Effect, Move};
 use values::value::{Held, Value};
 
@@ -25,16 +25,16 @@ pub fn op(o: u8, x: Value, y: Value, m: PartySet) -> Effect
     ensures { result ≡ on_two m (operate (operation_of o)) (held m x) (held m y) }
 {
     let Held::Number(s, i) = x.held(m) else {
-        return Effect::Refuse(refusals::WRONG_VALUE);
+        return Effect::Refuse(Refusal::WrongValue);
     };
     let Held::Number(t, j) = y.held(m) else {
-        return Effect::Refuse(refusals::WRONG_VALUE);
+        return Effect::Refuse(Refusal::WrongValue);
     };
     if s == t {
         let n = nodes::operation_of(o).of(i, j);
         Effect::Goes(Move::Hand(Value::had_by(m, s, n)))
     } else {
-        Effect::Refuse(refusals::WRONG_VALUE)
+        Effect::Refuse(Refusal::WrongValue)
     }
 }
 
@@ -49,13 +49,13 @@ pub fn mux(x: Value, y: Value, z: Value, m: PartySet) -> Effect
     ensures { result ≡ on_three m mux (held m x) (held m y) (held m z) }
 {
     let Held::Number(s, i) = x.held(m) else {
-        return Effect::Refuse(refusals::WRONG_VALUE);
+        return Effect::Refuse(Refusal::WrongValue);
     };
     let Held::Number(t, j) = y.held(m) else {
-        return Effect::Refuse(refusals::WRONG_VALUE);
+        return Effect::Refuse(Refusal::WrongValue);
     };
     let Held::Number(u, k) = z.held(m) else {
-        return Effect::Refuse(refusals::WRONG_VALUE);
+        return Effect::Refuse(Refusal::WrongValue);
     };
     if s == t {
         if s == u {
@@ -63,16 +63,16 @@ pub fn mux(x: Value, y: Value, z: Value, m: PartySet) -> Effect
             return Effect::Goes(Move::Hand(Value::had_by(m, s, n)));
         }
     }
-    Effect::Refuse(refusals::WRONG_VALUE)
+    Effect::Refuse(Refusal::WrongValue)
 }
 
 pub fn read(m: PartySet) -> Effect
-    ensures { result ≡ unless wrong_mode (alone m) Effect.Reads }
+    ensures { result ≡ unless Refusal.WrongMode (alone m) Effect.Reads }
 {
     if alone(m) {
         Effect::Reads
     } else {
-        Effect::Refuse(refusals::WRONG_MODE)
+        Effect::Refuse(Refusal::WrongMode)
     }
 }
 
@@ -93,15 +93,15 @@ fn clear_at(x: Value, m: PartySet) -> Clear
 }
 
 pub fn write(x: Value, m: PartySet) -> Effect
-    ensures { result ≡ if_clear (held m x) (λ i. unless wrong_mode (alone m) (Effect.Writes i)) }
+    ensures { result ≡ if_clear (held m x) (λ i. unless Refusal.WrongMode (alone m) (Effect.Writes i)) }
 {
     let Clear::Is(i) = clear_at(x, m) else {
-        return Effect::Refuse(refusals::WRONG_VALUE);
+        return Effect::Refuse(Refusal::WrongValue);
     };
     if alone(m) {
         Effect::Writes(i)
     } else {
-        Effect::Refuse(refusals::WRONG_MODE)
+        Effect::Refuse(Refusal::WrongMode)
     }
 }
 
@@ -109,7 +109,7 @@ pub fn embed(x: Value, m: PartySet) -> Effect
     ensures { result ≡ if_clear (held m x) (λ i. hands_back (Share i m m)) }
 {
     let Clear::Is(i) = clear_at(x, m) else {
-        return Effect::Refuse(refusals::WRONG_VALUE);
+        return Effect::Refuse(Refusal::WrongValue);
     };
     Effect::Goes(Move::Hand(Value::Share(i, m, m)))
 }
@@ -119,7 +119,7 @@ pub fn case(x: Value, m: PartySet, e1: u16, e2: u16) -> Effect
     ensures { result ≡ if_clear (held m x) (λ i. Effect.Goes (Move.Goto (cond (same_integer i (pos 0)) e2 e1))) }
 {
     let Clear::Is(i) = clear_at(x, m) else {
-        return Effect::Refuse(refusals::WRONG_VALUE);
+        return Effect::Refuse(Refusal::WrongValue);
     };
     if i == 0 {
         Effect::Goes(Move::Goto(e2))

@@ -1,7 +1,7 @@
 -- Document 01, "Rules of one step": what a node does in a mode, with the names bound. One function serves the single run, which sees whole
 -- values, and a site, which sees its slices. Only SHARE, REVEAL and PAR ask which of the two it is.
 -- A refusal is the lowest that fits: 5, 6, 7 here; 8, 9 and 10, of inputs, room and frames, are tried after (Single, Joint).
-use Rattle.std.specs.Prelude.{ℕ, Bool, true, false, not, ◌&&◌, cond, List, eqb, ℤ, pos}
+use Rattle.std.specs.Prelude.{Bool, true, false, not, ◌&&◌, cond, List, eqb, ℤ, pos}
 use Rattle.std.specs.Bool.{beq}
 use Rattle.std.proofs.Math.Option.{Option, none, some}
 use Rattle.numbers.specs.Integers.{operate, same_integer}
@@ -16,7 +16,8 @@ use Rattle.values.specs.declared.value.Held.TheVariants.{Number, Other}
 use Rattle.nodes.specs.Nodes.{operation_of}
 use Rattle.nodes.specs.declared.Node.{Node}
 use Rattle.nodes.specs.declared.Node.TheVariants.{VAR, INT, OP, MUX, READ, WRITE, EMBED, SHARE, REVEAL, LET, CASE, PAR, CALL}
-use Rattle.refusals.specs.Numbers.{name_unbound, wrong_value, wrong_mode}
+use Rattle.refusals.specs.declared.Refusal.{Refusal}
+use Rattle.refusals.specs.declared.Refusal.TheVariants.{NameUnbound, WrongValue, WrongMode}
 use Rattle.rules.specs.Names.{Names, Looked, found, unbound, look_all, names_of, first, second, third}
 use Rattle.rules.specs.declared.effects.View.{View}
 use Rattle.rules.specs.declared.effects.View.TheVariants.{Whole, Site}
@@ -28,7 +29,7 @@ use Rattle.rules.specs.declared.effects.Effect.{Effect}
 use Rattle.rules.specs.declared.effects.Effect.TheVariants.{Refuse, Goes, Reads, Writes, Meets}
 
 -- an effect, unless a test fails
-abbrev pub unless : ℕ → Bool → Effect → Effect
+abbrev pub unless : Refusal → Bool → Effect → Effect
 unless refusal true e = e
 unless refusal false e = Refuse refusal
 
@@ -39,15 +40,15 @@ hands_back v = Goes (Hand v)
 
 -- "all clear and at exactly m, result clear at m; or all shares with holders m at exactly m, result such a share"
 abbrev pub on_two : PartySet → (ℤ → ℤ → ℤ) → Held → Held → Effect
-on_two m f (Number s i) (Number t j) = unless wrong_value (beq s t) (hands_back (had_by m s (f i j)))
-on_two m f (Number s i) Other = Refuse wrong_value
-on_two m f Other h = Refuse wrong_value
+on_two m f (Number s i) (Number t j) = unless WrongValue (beq s t) (hands_back (had_by m s (f i j)))
+on_two m f (Number s i) Other = Refuse WrongValue
+on_two m f Other h = Refuse WrongValue
 
 abbrev pub on_three : PartySet → (ℤ → ℤ → ℤ → ℤ) → Held → Held → Held → Effect
-on_three m f (Number s i) (Number t j) (Number u k) = unless wrong_value (beq s t && beq s u) (hands_back (had_by m s (f i j k)))
-on_three m f (Number s i) (Number t j) Other = Refuse wrong_value
-on_three m f (Number s i) Other h = Refuse wrong_value
-on_three m f Other g h = Refuse wrong_value
+on_three m f (Number s i) (Number t j) (Number u k) = unless WrongValue (beq s t && beq s u) (hands_back (had_by m s (f i j k)))
+on_three m f (Number s i) (Number t j) Other = Refuse WrongValue
+on_three m f (Number s i) Other h = Refuse WrongValue
+on_three m f Other g h = Refuse WrongValue
 
 -- "MUX is y where x is not 0, else z."
 unfoldable pub mux : ℤ → ℤ → ℤ → ℤ
@@ -55,9 +56,9 @@ mux x y z = cond (same_integer x (pos 0)) z y
 
 -- "x clear at exactly m"
 abbrev pub if_clear : Held → (ℤ → Effect) → Effect
-if_clear (Number true i) k = Refuse wrong_value
+if_clear (Number true i) k = Refuse WrongValue
 if_clear (Number false i) k = k i
-if_clear Other k = Refuse wrong_value
+if_clear Other k = Refuse WrongValue
 
 -- "m has one party"
 unfoldable pub alone : PartySet → Bool
@@ -67,14 +68,14 @@ alone m = eqb (count m) 1
 
 -- "x clear with a in its set; a and q together are exactly m"
 unfoldable pub giver_shares : PartySet → Party → PartySet → Value → Effect
-giver_shares m a q Nothing = Refuse wrong_value
+giver_shares m a q Nothing = Refuse WrongValue
 giver_shares m a q (Clear i l) =
-    unless wrong_value (member a.index l) (unless wrong_mode (make_up a.index q m) (Meets (Sharing a q) (Secret i (only a.index))))
-giver_shares m a q (Share i h l) = Refuse wrong_value
+    unless WrongValue (member a.index l) (unless WrongMode (make_up a.index q m) (Meets (Sharing a q) (Secret i (only a.index))))
+giver_shares m a q (Share i h l) = Refuse WrongValue
 
 -- "the others only that x is bound and that a and q make up m"
 unfoldable pub other_shares : PartySet → Party → PartySet → Effect
-other_shares m a q = unless wrong_mode (make_up a.index q m) (Meets (Sharing a q) Empty)
+other_shares m a q = unless WrongMode (make_up a.index q m) (Meets (Sharing a q) Empty)
 
 -- "at SHARE, site a makes all the checks"
 unfoldable pub at_share : View → PartySet → Party → PartySet → Value → Effect
@@ -85,15 +86,15 @@ at_share (Site P) m a q v = cond (eqb P.index a.index) (giver_shares m a q v) (o
 
 -- "x a share at exactly its holders h; h and q together are exactly m"
 unfoldable pub holder_opens : PartySet → PartySet → Value → Effect
-holder_opens m q Nothing = Refuse wrong_value
-holder_opens m q (Clear i l) = Refuse wrong_value
+holder_opens m q Nothing = Refuse WrongValue
+holder_opens m q (Clear i l) = Refuse WrongValue
 holder_opens m q (Share i h l) =
-    unless wrong_value (same_set l h) (unless wrong_mode (same_set (join h q) m) (Meets (Revealing q) (Secret i h)))
+    unless WrongValue (same_set l h) (unless WrongMode (same_set (join h q) m) (Meets (Revealing q) (Secret i h)))
 
 -- "At REVEAL a site holding nothing must be in q (else refusal 7); one holding a value checks as above."
 unfoldable pub at_reveal : View → PartySet → PartySet → Value → Effect
 at_reveal Whole m q v = holder_opens m q v
-at_reveal (Site P) m q Nothing = unless wrong_mode (member P.index q) (Meets (Revealing q) Empty)
+at_reveal (Site P) m q Nothing = unless WrongMode (member P.index q) (Meets (Revealing q) Empty)
 at_reveal (Site P) m q (Clear i l) = holder_opens m q (Clear i l)
 at_reveal (Site P) m q (Share i h l) = holder_opens m q (Share i h l)
 
@@ -113,8 +114,8 @@ judge w (VAR x) m vs = hands_back (first vs)
 judge w (INT i) m vs = hands_back (Clear i m)
 judge w (OP o x y) m vs = on_two m (operate (operation_of o)) (held m (first vs)) (held m (second vs))
 judge w (MUX x y z) m vs = on_three m mux (held m (first vs)) (held m (second vs)) (held m (third vs))
-judge w READ m vs = unless wrong_mode (alone m) Reads
-judge w (WRITE x) m vs = if_clear (held m (first vs)) λ i. unless wrong_mode (alone m) (Writes i)
+judge w READ m vs = unless WrongMode (alone m) Reads
+judge w (WRITE x) m vs = if_clear (held m (first vs)) λ i. unless WrongMode (alone m) (Writes i)
 judge w (EMBED x) m vs = if_clear (held m (first vs)) λ i. hands_back (Share i m m)
 judge w (SHARE a q x) m vs = at_share w m a q (first vs)
 judge w (REVEAL q x) m vs = at_reveal w m q (first vs)
@@ -125,7 +126,7 @@ judge w (CALL f x) m vs = Goes (Call f (first vs))
 
 abbrev pub with_values : Looked → (List Value → Effect) → Effect
 with_values (found vs) k = k vs
-with_values (unbound x) k = Refuse name_unbound
+with_values (unbound x) k = Refuse NameUnbound
 
 unfoldable pub rule : View → Node → PartySet → Names → Effect
 rule w e m b = with_values (look_all m b (names_of e)) λ vs. judge w e m vs

@@ -3,7 +3,7 @@ use lib.IntN.{ℤ}
 use mathlib.Core.Path.{sym, ◌∙◌}
 use native.Mathlib.Omega.{arith}
 use Rattle.values.specs.Values.{held}
-use Rattle.refusals.specs.Numbers.{wrong_mode}
+use Rattle.refusals.specs.declared.Refusal.TheVariants.{WrongMode}
 use Rattle.rules.specs.Rules.{unless, alone}
 use Rattle.rules.specs.declared.effects.Effect.{Effect}
 use Rattle.rules.specs.declared.effects.Effect.TheVariants.{Writes}
@@ -13,7 +13,7 @@ use Rattle.local_rules.proofs.RuleLaws.{clear_is, clear_not}
 use Rattle.local_rules.proofs.write.Goals as goal
 
 abbrev written : PartySet → ℤ → Effect
-written m i = unless wrong_mode (alone m) (Writes i)
+written m i = unless WrongMode (alone m) (Writes i)
 
 pub returns-in_default : goal.returns-in_default
 returns-in_default c = let a = c.args in
