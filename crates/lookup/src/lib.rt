@@ -14,6 +14,7 @@ use cells::Bound;
 use limits::{Depth, Name};
 use nodes::{JointNode, Node};
 use parties::sets::PartySet;
+use refusals::Refusal;
 use rules::bindings::{Binding, Bindings};
 use rules::effects::{Effect, View};
 use values::value::Value;
@@ -137,7 +138,7 @@ pub fn effect(view: View, node: Node, t: Stand, w: &[u8]) -> Effect
     let m = t.mode;
     let depth = t.depth;
     let Handed::All(b) = look_all(names_read(node), depth, m, w) else {
-        return Effect::Refuse(refusals::NAME_UNBOUND);
+        return Effect::Refuse(Refusal::NameUnbound);
     };
     judge::judged::judge(view, node, m, b)
 }
@@ -152,14 +153,14 @@ pub fn joint_effect(view: View, node: JointNode, t: Stand, w: &[u8]) -> Effect
     match node {
         JointNode::SHARE(a, q, x) => {
             let Sought::Found(b) = seek(w, depth, m, x) else {
-                return Effect::Refuse(refusals::NAME_UNBOUND);
+                return Effect::Refuse(Refusal::NameUnbound);
             };
             let v = b.value;
             party_rules::share(view, m, a, q, v)
         }
         JointNode::REVEAL(q, x) => {
             let Sought::Found(b) = seek(w, depth, m, x) else {
-                return Effect::Refuse(refusals::NAME_UNBOUND);
+                return Effect::Refuse(Refusal::NameUnbound);
             };
             let v = b.value;
             party_rules::reveal(view, m, q, v)
