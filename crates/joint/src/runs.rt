@@ -17,11 +17,12 @@ use limits::Depth;
 use parties::sets::PartySet;
 use program::check::Verdict;
 use records::events::Event;
+use refusals::Refusal;
 
 #[derive(Clone, Copy)]
 pub enum Answer {
     // the refusal, and its place
-    Refused(u8, usize),
+    Refused(Refusal, usize),
     // the turns at which a site stepped or stopped
     Complete(u32),
     Open(u32),
@@ -129,13 +130,13 @@ fn run_lent(
     let parties = n as usize;
     let room = bytes.len() / parties;
     if room < Event::MAX {
-        return Answer::Refused(refusals::TOO_LITTLE_LENT, 0);
+        return Answer::Refused(Refusal::TooLittleLent, 0);
     }
     if lengths.len() < parties {
-        return Answer::Refused(refusals::TOO_LITTLE_LENT, 0);
+        return Answer::Refused(Refusal::TooLittleLent, 0);
     }
     if work.len() < parties * AREA {
-        return Answer::Refused(refusals::TOO_LITTLE_LENT, 0);
+        return Answer::Refused(Refusal::TooLittleLent, 0);
     }
     let answer = drive(
         program, n, nodes, room, counts, inputs, turns, bytes, lengths, work,
@@ -160,10 +161,10 @@ fn run_good(
     ensures { Is (joint_call (record { program = program.now; counts = counts.now; inputs = inputs.now; records = bytes.old; lengths = lengths.old; work = work.old }) turns.now) result bytes.new lengths.new work.new }
 {
     if !counts_fit(counts, n, inputs.len()) {
-        return Answer::Refused(refusals::BAD_COUNTS, 0);
+        return Answer::Refused(Refusal::BadCounts, 0);
     }
     match ends::bad_turn(turns, n) {
-        BadTurn::At(index) => Answer::Refused(refusals::BAD_TURN, index),
+        BadTurn::At(index) => Answer::Refused(Refusal::BadTurn, index),
         BadTurn::None => run_lent(
             program, n, nodes, counts, inputs, turns, bytes, lengths, work,
         ),
@@ -183,7 +184,7 @@ pub fn run(
     ensures { Is (joint_call (record { program = program.now; counts = counts.now; inputs = inputs.now; records = bytes.old; lengths = lengths.old; work = work.old }) turns.now) result bytes.new lengths.new work.new }
 {
     match program::check::check(program) {
-        Verdict::Bad(place) => Answer::Refused(refusals::BAD_PROGRAM, place),
+        Verdict::Bad(place) => Answer::Refused(Refusal::BadProgram, place),
         Verdict::Good(n, nodes) => run_good(
             program, n, nodes, counts, inputs, turns, bytes, lengths, work,
         ),
