@@ -9,6 +9,7 @@ ghost use Rattle.concludes.specs.Concludes.{TakesPart, ConcludesOne, ConcludesAl
 use area::stand::{ROW, Stand};
 use limits::Party;
 use parties::sets::PartySet;
+use refusals::Refusal;
 use rules::effects::Meeting;
 use seats::Seat;
 
@@ -35,7 +36,7 @@ fn take_part(
     let node = t.node;
     match outcome {
         Outcome::Joins(mt, number) => acts::join(mt, number, t, p, used, bytes, area),
-        Outcome::Parts => acts::stop(refusals::DISAGREEMENT, node, used, bytes, area),
+        Outcome::Parts => acts::stop(Refusal::Disagreement, node, used, bytes, area),
     }
 }
 
