@@ -18,7 +18,7 @@ use Rattle.values.specs.declared.value.Held.TheVariants.{Number, Other}
 use Rattle.nodes.specs.Nodes.{operation_of}
 use Rattle.nodes.specs.declared.Node.{Node}
 use Rattle.nodes.specs.declared.Node.TheVariants.{VAR, INT, OP, MUX, READ, WRITE, EMBED, SHARE, REVEAL, LET, CASE, PAR, CALL}
-use Rattle.refusals.specs.Numbers.{wrong_value, wrong_mode}
+use Rattle.refusals.specs.declared.Refusal.TheVariants.{WrongValue, WrongMode}
 use Rattle.rules.specs.Names.{Names, Looked, found, unbound, look_all, names_of, first, second, third}
 use Rattle.rules.specs.Rules.{unless, on_two, on_three, mux, if_clear, giver_shares, other_shares, at_share, holder_opens, at_reveal, judge, with_values, rule}
 use Rattle.rules.specs.declared.effects.View.{View}
@@ -121,7 +121,7 @@ clear_hide Other k = refl
 
 -- two meetings in which all but the offer is the same
 unless_hide : (s t : Bool) (mt : Meeting) (o o' : Offer)
-    → hide_effect (unless wrong_value s (unless wrong_mode t (Meets mt o))) ≡ hide_effect (unless wrong_value s (unless wrong_mode t (Meets mt o')))
+    → hide_effect (unless WrongValue s (unless WrongMode t (Meets mt o))) ≡ hide_effect (unless WrongValue s (unless WrongMode t (Meets mt o')))
 unless_hide true true mt o o' = refl
 unless_hide true false mt o o' = refl
 unless_hide false t mt o o' = refl
