@@ -4,13 +4,14 @@ ghost use Rattle.threadmolar.specs.Checks.{Checks};
 
 use crate::answers::{GOOD, numbered};
 use program::check::Verdict;
+use refusals::Refusal;
 
 #[unsafe(no_mangle)]
 pub extern "C" fn threadmolar_check(program: &[u8], parties: &mut u8, nodes: &mut usize) -> u32
     ensures { Checks (check_answer program.now) result parties.old nodes.old parties.new nodes.new }
 {
     match program::check::check(program) {
-        Verdict::Bad(place) => numbered(refusals::BAD_PROGRAM, place as u16),
+        Verdict::Bad(place) => numbered(Refusal::BadProgram, place as u16),
         Verdict::Good(n, many) => {
             *parties = n;
             *nodes = many as usize;
