@@ -21,7 +21,8 @@ use Rattle.records.specs.Append.{Appends, Closes}
 use Rattle.records.specs.AppendLaws.{Took, Kept, took, kept}
 use Rattle.records.specs.declared.events.Event.{Event}
 use Rattle.records.specs.declared.events.Event.TheVariants as Event'
-use Rattle.refusals.specs.Numbers.{no_input, no_room, too_deep}
+use Rattle.refusals.specs.declared.Refusal.{Refusal}
+use Rattle.refusals.specs.Numbers.{number_of, no_input, no_room, too_deep}
 use Rattle.rules.specs.Books.{Book, used, event_for, room_for, add, note}
 use Rattle.rules.specs.Moves.{move}
 use Rattle.rules.specs.Single.{Setting}
@@ -166,7 +167,7 @@ module _ (ev : Event) (mv : Move) (t : Stand) (P : ℕ) (u : ℕ) (xs w : List �
 
 -- ---- each effect, done by itself
 module _ (input : Option ℤ) (t : Stand) (P : Party) (u : ℕ) (xs w : List ℕ) (u' : ℕ) (xs' w' : List ℕ) where
-  pub acts_refuse : (effect : Effect) (r : ℕ) → effect ≡ Refuse r → Takes (stop r t.node) u xs w u' xs' w' → Acts.Acts effect input t P u xs w u' xs' w'
+  pub acts_refuse : (effect : Effect) (r : Refusal) → effect ≡ Refuse r → Takes (stop (number_of r) t.node) u xs w u' xs' w' → Acts.Acts effect input t P u xs w u' xs' w'
   unfolding acted control_of
   acts_refuse effect r q s = rw q (record { acts = λ S R b o h i n. s.took b o h; table = s.table })
 

@@ -4,6 +4,7 @@
 ghost use Rattle.std.specs.Prelude.{◌≤◌, length};
 ghost use Rattle.limits.specs.Limits.{max_frames};
 ghost use Rattle.values.specs.Values.{slice};
+ghost use Rattle.refusals.specs.Numbers.{number_of};
 ghost use Rattle.rules.specs.Books.{handed, event_of};
 ghost use Rattle.rules.specs.Moves.{move};
 ghost use Rattle.rules.specs.Joint.{finish, stop, land};
@@ -15,16 +16,17 @@ ghost use Rattle.acts.specs.Acts.{Takes, Lands, Settles, Acts};
 use area::stand::{Next, Stand};
 use limits::Party;
 use records::events::Event;
+use refusals::Refusal;
 use rules::effects::{Effect, Meeting, Move};
 use seats::Seat;
 use values::value::Value;
 
-pub fn stop(refusal: u8, node: u16, used: usize, bytes: &mut [u8], area: &mut [u8]) -> usize
+pub fn stop(refusal: Refusal, node: u16, used: usize, bytes: &mut [u8], area: &mut [u8]) -> usize
     requires { row_size ≤ length area.old }
-    ensures { Takes (stop refusal node) used bytes.old area.old result bytes.new area.new }
+    ensures { Takes (stop (number_of refusal) node) used bytes.old area.old result bytes.new area.new }
 {
     seats::save_seat(Seat::Stopped, area);
-    Event::Stopped(refusal, node).close(bytes, used)
+    Event::Stopped(u8::from(refusal), node).close(bytes, used)
 }
 
 fn finish(v: Value, used: usize, bytes: &mut [u8], area: &mut [u8]) -> usize
@@ -46,7 +48,7 @@ pub fn land(next: Next, node: u16, used: usize, bytes: &mut [u8], area: &mut [u8
             used
         }
         Next::Ends(v) => finish(v, used, bytes, area),
-        Next::Full => stop(refusals::TOO_DEEP, node, used, bytes, area),
+        Next::Full => stop(Refusal::TooDeep, node, used, bytes, area),
     }
 }
 
@@ -74,7 +76,7 @@ fn settle(
 {
     let node = t.node;
     let Some(next) = ledger::entries::event_for(p, ev).append(bytes, used) else {
-        return stop(refusals::NO_ROOM, node, used, bytes, area);
+        return stop(Refusal::NoRoom, node, used, bytes, area);
     };
     hand_back(v, t, next, bytes, area)
 }
@@ -117,7 +119,7 @@ pub fn act(
         Effect::Goes(_) => used,
         Effect::Reads => {
             let Some(i) = input else {
-                return stop(refusals::NO_INPUT, node, used, bytes, area);
+                return stop(Refusal::NoInput, node, used, bytes, area);
             };
             settle(Event::Read(i), Value::Clear(i, m), t, p, used, bytes, area)
         }

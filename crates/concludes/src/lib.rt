@@ -9,6 +9,7 @@ ghost use Rattle.concludes.specs.Concludes.{TakesPart, ConcludesOne, ConcludesAl
 use area::stand::{ROW, Stand};
 use limits::Party;
 use parties::sets::PartySet;
+use refusals::Refusal;
 use rules::effects::Meeting;
 use seats::Seat;
 
@@ -34,7 +35,7 @@ fn take_part(
     let node = t.node;
     match outcome {
         Some(joined) => acts::join(joined.meeting, joined.number, t, p, used, bytes, area),
-        None => acts::stop(refusals::DISAGREEMENT, node, used, bytes, area),
+        None => acts::stop(Refusal::Disagreement, node, used, bytes, area),
     }
 }
 

@@ -20,7 +20,8 @@ use Rattle.values.specs.declared.value.Value.{Value}
 use Rattle.values.specs.declared.value.Value.TheVariants.{Nothing, Clear, Share}
 use Rattle.nodes.specs.declared.Node.{Node}
 use Rattle.nodes.specs.declared.Node.TheVariants.{VAR, INT, OP, MUX, READ, WRITE, EMBED, SHARE, REVEAL, LET, CASE, PAR, CALL}
-use Rattle.refusals.specs.Numbers.{wrong_value, wrong_mode}
+use Rattle.refusals.specs.declared.Refusal.{Refusal}
+use Rattle.refusals.specs.declared.Refusal.TheVariants.{WrongValue, WrongMode}
 use Rattle.rules.specs.Names.{Names, look, Looked, found, unbound, before, look_all, names_of, first}
 use Rattle.rules.specs.Rules.{unless, giver_shares, other_shares, at_share, holder_opens, at_reveal, judge, with_values, rule}
 use Rattle.rules.specs.Joint.{site}
@@ -60,7 +61,7 @@ joint (CALL f x) j = absurd (false≢true j)
 
 -- ---- what the single run saw there
 
-never : {A : Type 0} {k : ℕ} {mt : Meeting} {o : Offer} → Refuse k ≡ Meets mt o → A
+never : {A : Type 0} {k : Refusal} {mt : Meeting} {o : Offer} → Refuse k ≡ Meets mt o → A
 never e = let z : ◌≡◌ {A = ℕ} 0 1 = cc in absurd (omega arith)
 
 record Gave (m : PartySet) (a : Party) (q : PartySet) (v : Value) (mt : Meeting) (i : ℤ) (h : PartySet) : Type 0 where
@@ -78,7 +79,7 @@ gave m a q (Share j k l) mt i h e = never e
 gave m a q (Clear j l) mt i h e = go (member a.index l) (make_up a.index q m) refl refl e
   where
     go : (t u : Bool) → member a.index l ≡ t → make_up a.index q m ≡ u
-        → unless wrong_value t (unless wrong_mode u (Meets (Sharing a q) (Secret j (only a.index)))) ≡ Meets mt (Secret i h) → Gave m a q (Clear j l) mt i h
+        → unless WrongValue t (unless WrongMode u (Meets (Sharing a q) (Secret j (only a.index)))) ≡ Meets mt (Secret i h) → Gave m a q (Clear j l) mt i h
     go true true s f e = record { l = l; is = let n : j ≡ i = cc in rw n; has = s; fits = f; what = cc; who = cc }
     go true false s f e = never e
     go false u s f e = never e
@@ -95,7 +96,7 @@ opens m q (Clear j l) mt i h e = never e
 opens m q (Share j k l) mt i h e = go (same_set l k) (same_set (join k q) m) refl refl e
   where
     go : (t u : Bool) → same_set l k ≡ t → same_set (join k q) m ≡ u
-        → unless wrong_value t (unless wrong_mode u (Meets (Revealing q) (Secret j k))) ≡ Meets mt (Secret i h) → Opens m q (Share j k l) mt i h
+        → unless WrongValue t (unless WrongMode u (Meets (Revealing q) (Secret j k))) ≡ Meets mt (Secret i h) → Opens m q (Share j k l) mt i h
     go true true s f e =
         let n : j ≡ i = cc in
         let w : k ≡ h = cc in

@@ -9,7 +9,7 @@ use Rattle.parties.specs.Sets.{member}
 use Rattle.values.specs.declared.value.Value.{Value}
 use Rattle.values.specs.declared.value.Value.TheVariants.{Nothing, Clear, Share}
 use Rattle.records.specs.Events.{finished}
-use Rattle.refusals.specs.Numbers.{no_room}
+use Rattle.refusals.specs.Numbers.{number_of, no_room}
 use Rattle.records.specs.declared.events.Event.{Event}
 use Rattle.records.specs.declared.events.Event.TheVariants.{Read, Wrote, Opened, Passed}
 use Rattle.rules.specs.Moves.{Control, Next, on, ends, full, move}
@@ -89,7 +89,7 @@ read_shown S P c b (i ∷ is) h = settle_shown S P c b (some (Read i)) _ (λ Q. 
 
 own_shown : (S : Setting) (P : ℕ) (c : Control) (b : Book) (e : Effect) → has_finished b.events ≡ false → ShownOwn P (perform_own S P c b e)
 unfolding perform_own event_for
-own_shown S P c b (Refuse refusal) h = stop_shown P refusal c.node b
+own_shown S P c b (Refuse refusal) h = stop_shown P (number_of refusal) c.node b
 own_shown S P c b (Goes mv) h = settle_shown S P c b none mv tt h
 own_shown S P c b Reads h = read_shown S P c b b.inputs h
 own_shown S P c b (Writes i) h = settle_shown S P c b (some (Wrote i)) _ (λ Q. refl) h

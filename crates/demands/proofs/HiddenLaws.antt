@@ -18,7 +18,7 @@ use Rattle.values.specs.declared.value.Held.{Held}
 use Rattle.nodes.specs.Nodes.{operation_of}
 use Rattle.nodes.specs.declared.Node.{Node}
 use Rattle.nodes.specs.declared.Node.TheVariants.{VAR, INT, OP, MUX, READ, WRITE, EMBED, SHARE, REVEAL, LET, CASE, PAR, CALL}
-use Rattle.refusals.specs.Numbers.{wrong_value, wrong_mode}
+use Rattle.refusals.specs.declared.Refusal.TheVariants.{WrongValue, WrongMode}
 use Rattle.rules.specs.Names.{Names, Looked, found, unbound, look_all, names_of, first, second, third}
 use Rattle.rules.specs.Rules.{unless, hands_back, on_two, on_three, mux, if_clear, giver_shares, other_shares, at_share, holder_opens, at_reveal, judge, with_values, rule}
 use Rattle.rules.specs.declared.effects.View.{View}
@@ -97,7 +97,7 @@ unfolding had_by
 two_hide m f (Some x) (Some y) = go x.secret y.secret
   where
     over : (s t : Bool) → ℤ → Effect
-    over s t n = hide_effect (unless wrong_value (beq s t) (hands_back (had_by m s n)))
+    over s t n = hide_effect (unless WrongValue (beq s t) (hands_back (had_by m s n)))
     go : (s t : Bool) → over s t (f (cond s (pos 0) x.number) (cond t (pos 0) y.number)) ≡ over s t (f x.number y.number)
     go true true = refl
     go true false = refl
@@ -112,7 +112,7 @@ unfolding had_by
 three_hide m f (Some x) (Some y) (Some z) = go x.secret y.secret z.secret
   where
     over : (s t u : Bool) → ℤ → Effect
-    over s t u n = hide_effect (unless wrong_value (beq s t && beq s u) (hands_back (had_by m s n)))
+    over s t u n = hide_effect (unless WrongValue (beq s t && beq s u) (hands_back (had_by m s n)))
     go : (s t u : Bool) → over s t u (f (cond s (pos 0) x.number) (cond t (pos 0) y.number) (cond u (pos 0) z.number)) ≡ over s t u (f x.number y.number z.number)
     go true true true = refl
     go true true false = refl
@@ -128,13 +128,13 @@ clear_hide : (g : Option Held) (k : ℤ → Effect) → if_clear (hide_held g) k
 clear_hide None k = refl
 clear_hide (Some x) k = go x.secret
   where
-    go : (s : Bool) → cond s (Refuse wrong_value) (k (cond s (pos 0) x.number)) ≡ cond s (Refuse wrong_value) (k x.number)
+    go : (s : Bool) → cond s (Refuse WrongValue) (k (cond s (pos 0) x.number)) ≡ cond s (Refuse WrongValue) (k x.number)
     go true = refl
     go false = refl
 
 -- two meetings in which all but the offer is the same
 unless_hide : (s t : Bool) (mt : Meeting) (o o' : Offer)
-    → hide_effect (unless wrong_value s (unless wrong_mode t (Meets mt o))) ≡ hide_effect (unless wrong_value s (unless wrong_mode t (Meets mt o')))
+    → hide_effect (unless WrongValue s (unless WrongMode t (Meets mt o))) ≡ hide_effect (unless WrongValue s (unless WrongMode t (Meets mt o')))
 unless_hide true true mt o o' = refl
 unless_hide true false mt o o' = refl
 unless_hide false t mt o o' = refl

@@ -5,6 +5,7 @@ use Rattle.parties.specs.declared.sets.PartySet.{PartySet}
 use Rattle.values.specs.declared.value.Value.{Value}
 use Rattle.nodes.specs.declared.Node.{Node}
 use Rattle.nodes.specs.declared.Node.TheVariants.{VAR, INT, OP, MUX, READ, WRITE, EMBED, SHARE, REVEAL, LET, CASE, PAR, CALL}
+use Rattle.refusals.specs.Numbers.{number_of}
 use Rattle.rules.specs.Names.{Names}
 use Rattle.rules.specs.Rules.{rule}
 use Rattle.rules.specs.RuleLaws.{OfKind, at_site, rule_holds}
@@ -15,7 +16,7 @@ use Rattle.demands.specs.Demand1.{StopNumber}
 
 -- what a rule refuses with
 abbrev pub Refuses : Effect → Type 0
-Refuses (Refuse refusal) = StopNumber refusal
+Refuses (Refuse refusal) = StopNumber (number_of refusal)
 Refuses (Goes mv) = Unit {0}
 Refuses Reads = Unit {0}
 Refuses (Writes i) = Unit {0}

@@ -12,7 +12,7 @@ use Rattle.parties.specs.Sets.{member}
 use Rattle.values.specs.declared.value.Value.{Value}
 use Rattle.values.specs.declared.value.Value.TheVariants.{Nothing, Clear, Share}
 use Rattle.program.specs.Check.{Program, good, checked, node_at}
-use Rattle.refusals.specs.Numbers.{no_input, no_room, too_deep, disagreement}
+use Rattle.refusals.specs.Numbers.{number_of, no_input, no_room, too_deep, disagreement}
 use Rattle.records.specs.Events.{finished}
 use Rattle.records.specs.declared.events.Event.{Event}
 use Rattle.records.specs.declared.events.Event.TheVariants.{Read, Wrote, Shared, Opened, Passed, Finished, Stopped}
@@ -111,7 +111,7 @@ module _ (S : Setting) (P : ℕ) (c : Control) (b : Book) (h : SiteStops b.event
 
   perform_stops : (e : Effect) → Refuses e → OwnStops (perform_own S P c b e)
   unfolding perform_own event_for
-  perform_stops (Refuse refusal) r = stop_stops refusal (r.0, omega (arith, r.1))
+  perform_stops (Refuse refusal) r = stop_stops (number_of refusal) (r.0, omega (arith, r.1))
   perform_stops (Goes mv) r = settle_stops none mv tt
   perform_stops Reads r = read_stops b.inputs
   perform_stops (Writes i) r = settle_stops (some (Wrote i)) _ tt

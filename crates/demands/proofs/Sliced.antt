@@ -19,7 +19,8 @@ use Rattle.values.specs.declared.value.Held.{Held}
 use Rattle.nodes.specs.Nodes.{operation_of}
 use Rattle.nodes.specs.declared.Node.{Node}
 use Rattle.nodes.specs.declared.Node.TheVariants.{VAR, INT, OP, MUX, READ, WRITE, EMBED, SHARE, REVEAL, LET, CASE, PAR, CALL}
-use Rattle.refusals.specs.Numbers.{wrong_value, wrong_mode}
+use Rattle.refusals.specs.declared.Refusal.{Refusal}
+use Rattle.refusals.specs.declared.Refusal.TheVariants.{WrongValue, WrongMode}
 use Rattle.rules.specs.Names.{Names, Looked, found, unbound, look_all, names_of, first, second, third}
 use Rattle.rules.specs.Rules.{unless, on_two, on_three, mux, if_clear, alone, judge, with_values, rule}
 use Rattle.rules.specs.Joint.{site}
@@ -127,7 +128,7 @@ module _ (P : ℕ) (m : PartySet) (inside : member P m ≡ true) where
   unfolding slice place
   share_slice i = rw inside
 
-  result_slice : (t s : Bool) (i : ℤ) → unless wrong_value t (Goes (Hand (had_by m s i))) ≡ slice_effect P (unless wrong_value t (Goes (Hand (had_by m s i))))
+  result_slice : (t s : Bool) (i : ℤ) → unless WrongValue t (Goes (Hand (had_by m s i))) ≡ slice_effect P (unless WrongValue t (Goes (Hand (had_by m s i))))
   unfolding had_by
   result_slice true true i = rw share_slice
   result_slice true false i = rw clear_slice
@@ -148,11 +149,11 @@ module _ (P : ℕ) (m : PartySet) (inside : member P m ≡ true) where
   if_clear_slice None k e = refl
   if_clear_slice (Some x) k e = go x.secret
     where
-      go : (s : Bool) → cond s (Refuse wrong_value) (k x.number) ≡ slice_effect P (cond s (Refuse wrong_value) (k x.number))
+      go : (s : Bool) → cond s (Refuse WrongValue) (k x.number) ≡ slice_effect P (cond s (Refuse WrongValue) (k x.number))
       go true = refl
       go false = e x.number
 
-  unless_slice : (refusal : ℕ) (t : Bool) (e : Effect) → e ≡ slice_effect P e → unless refusal t e ≡ slice_effect P (unless refusal t e)
+  unless_slice : (refusal : Refusal) (t : Bool) (e : Effect) → e ≡ slice_effect P e → unless refusal t e ≡ slice_effect P (unless refusal t e)
   unless_slice k true e h = h
   unless_slice k false e h = refl
 
@@ -171,8 +172,8 @@ module _ (P : ℕ) (m : PartySet) (inside : member P m ≡ true) where
   judge_slice (MUX x y z) vs j =
       rw (nth_slice P vs 0, nth_slice P vs 1, nth_slice P vs 2, held_slice (first vs), held_slice (second vs), held_slice (third vs))
       (three_slice mux (held m (first vs)) (held m (second vs)) (held m (third vs)))
-  judge_slice READ vs j = unless_slice wrong_mode (alone m) Reads refl
-  judge_slice (WRITE x) vs j = rw (nth_slice P vs 0, held_slice (first vs)) (if_clear_slice (held m (first vs)) _ λ i. unless_slice wrong_mode (alone m) (Writes i) refl)
+  judge_slice READ vs j = unless_slice WrongMode (alone m) Reads refl
+  judge_slice (WRITE x) vs j = rw (nth_slice P vs 0, held_slice (first vs)) (if_clear_slice (held m (first vs)) _ λ i. unless_slice WrongMode (alone m) (Writes i) refl)
   judge_slice (EMBED x) vs j = rw (nth_slice P vs 0, held_slice (first vs)) (if_clear_slice (held m (first vs)) _ λ i. sym (ap (λ (v : Value). Goes (Hand v)) (share_slice i)))
   judge_slice (SHARE a q x) vs j = absurd (false≢true (sym j))
   judge_slice (REVEAL q x) vs j = absurd (false≢true (sym j))

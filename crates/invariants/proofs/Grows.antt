@@ -4,7 +4,7 @@ use mathlib.Core.Bool.{Bool, true, false, cond}
 use mathlib.Core.List.{List, [], ◌∷◌}
 use mathlib.Core.Option.{Option, none, some}
 use lib.IntN.{ℤ, pos}
-use Rattle.refusals.specs.Numbers.{no_input, no_room, too_deep}
+use Rattle.refusals.specs.Numbers.{number_of, no_input, no_room, too_deep}
 use Rattle.records.specs.declared.events.Event.{Event}
 use Rattle.rules.specs.Moves.{Control, Next, on, ends, full, move}
 use Rattle.rules.specs.Books.{Book, event_of, room_for, add, note}
@@ -49,7 +49,7 @@ module _ (S : Setting) (P : ℕ) (c : Control) (b : Book) where
   -- whatever its rule asks for
   pub perform_adds : (e : Effect) → own_adds b (perform_own S P c b e)
   unfolding perform_own read_own
-  perform_adds (Refuse refusal) = stop_adds refusal c.node b
+  perform_adds (Refuse refusal) = stop_adds (number_of refusal) c.node b
   perform_adds (Goes mv) = settle_adds none mv
   perform_adds Reads = go b.inputs
     where

@@ -12,7 +12,7 @@ use Rattle.parties.specs.Sets.{member, lowest}
 use Rattle.parties.specs.declared.sets.PartySet.{PartySet}
 use Rattle.values.specs.Values.{slice}
 use Rattle.program.specs.Check.{node_at}
-use Rattle.refusals.specs.Numbers.{wrong_value, no_input, no_room, too_deep, disagreement}
+use Rattle.refusals.specs.Numbers.{number_of, wrong_value, no_input, no_room, too_deep, disagreement}
 use Rattle.records.specs.Events.{event_bytes, written, finished, held_back, has_room}
 use Rattle.records.specs.EventLaws.{event_short}
 use Rattle.records.specs.declared.events.Event.{Event}
@@ -88,7 +88,7 @@ module _ (S : Setting) (P : ℕ) (c : Control) (b : Book) (h : Spare S.room b) w
 
   perform_fits : (e : Effect) → Within (perform_own S P c b e)
   unfolding perform_own
-  perform_fits (Refuse refusal) = stop_fits refusal c.node
+  perform_fits (Refuse refusal) = stop_fits (number_of refusal) c.node
   perform_fits (Goes mv) = settle_fits none mv
   perform_fits Reads = read_fits b.inputs
   perform_fits (Writes i) = settle_fits (some (Wrote i)) _
@@ -174,7 +174,7 @@ module _ (S : Setting) (t : ℕ) (c : Control) (b : Books) (h : Below S.program.
 
   perform_all_fits : (e : Effect) → AllFit n S.room (perform S t c b e)
   unfolding perform
-  perform_all_fits (Refuse refusal) = stopped_fits refusal c.node
+  perform_all_fits (Refuse refusal) = stopped_fits (number_of refusal) c.node
   perform_all_fits (Goes mv) = settle_all_fits none mv
   perform_all_fits Reads = read_all_fits (b (lowest c.mode)).inputs
   perform_all_fits (Writes i) = settle_all_fits (some (Wrote i)) _

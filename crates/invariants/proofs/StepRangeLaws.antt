@@ -21,7 +21,7 @@ use Rattle.cells.specs.Cells as Cells
 use Rattle.values.specs.declared.value.Value.{Value}
 use Rattle.values.specs.declared.value.Value.TheVariants.{Clear}
 use Rattle.program.specs.Check.{node_at}
-use Rattle.refusals.specs.Numbers.{no_input, no_room, too_deep, disagreement}
+use Rattle.refusals.specs.Numbers.{number_of, no_input, no_room, too_deep, disagreement}
 use Rattle.records.specs.Events.{finished}
 use Rattle.records.specs.EventLaws.{finished_ranged}
 use Rattle.records.specs.Ranged.{Ranged, AllRanged}
@@ -145,7 +145,7 @@ module _ (S : Setting) (nodes : (e : ℕ) → RangedNode (node_at S.program e)) 
 
     perform_ranged : (e : Effect) → RangedEffect e → RangedOwn (perform_own S P c b e)
     unfolding perform_own
-    perform_ranged (Refuse refusal) r = stop_ranged refusal b r g
+    perform_ranged (Refuse refusal) r = stop_ranged (number_of refusal) b r g
     perform_ranged (Goes mv) r = settle_ranged none mv tt r
     perform_ranged Reads r = read_ranged b.inputs g.inputs
     perform_ranged (Writes i) r = settle_ranged (some (Wrote i)) (Hand (Clear (pos 0) c.mode)) r (zero_fits, h.mode)

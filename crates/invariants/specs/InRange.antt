@@ -8,6 +8,7 @@ use Rattle.cells.specs.Cells.{RangedValue}
 use Rattle.cells.specs.Cells as Cells
 use Rattle.nodes.specs.declared.Node.{Node}
 use Rattle.nodes.specs.declared.Node.TheVariants.{VAR, INT, OP, MUX, READ, WRITE, EMBED, SHARE, REVEAL, LET, CASE, PAR, CALL}
+use Rattle.refusals.specs.Numbers.{number_of}
 use Rattle.records.specs.Ranged.{Ranged, AllRanged}
 use Rattle.records.specs.declared.events.Event.{Event}
 use Rattle.rules.specs.Names.{Names}
@@ -74,7 +75,7 @@ RangedOffer Empty = Unit {0}
 RangedOffer (Secret i h) = SFits w32 i
 
 abbrev pub RangedEffect : Effect → Type 0
-RangedEffect (Refuse refusal) = refusal < 2 ^ 8
+RangedEffect (Refuse refusal) = number_of refusal < 2 ^ 8
 RangedEffect (Goes mv) = RangedMove mv
 RangedEffect Reads = Unit {0}
 RangedEffect (Writes i) = SFits w32 i

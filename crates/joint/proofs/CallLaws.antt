@@ -12,7 +12,7 @@ use Rattle.rules.specs.Single.{Setting}
 use Rattle.rules.specs.Joint.{Turned, run_turns, start_all}
 use Rattle.rules.specs.Lent.{Lent, sum, room_of, inputs_of, counts_fit, enough_lent}
 use Rattle.rules.specs.Calls.{bad_turn_from, joint_left, joint_of, joint_call}
-use Rattle.refusals.specs.Numbers.{too_little_lent}
+use Rattle.refusals.specs.declared.Refusal.TheVariants.{TooLittleLent}
 use Rattle.ledger.proofs.LentLaws.{short_room, fit_whole}
 use Rattle.ledger.proofs.CallLaws as Call
 use Rattle.joint.specs.Runs.{Finishes, Drives, Is}
@@ -36,7 +36,7 @@ module _ (L : Lent) (n : ℕ) (xs ls w : List ℕ) (zero : w ≡ replicate (leng
 
 -- too little room for a record, by the code's tests
 pub short_by_room : (program counts : List ℕ) (inputs : List ℤ) (records lengths work turns : List ℕ) (n k : ℕ) → check_answer program ≡ accepted n k → length counts ≡ n → sum counts ≡ length inputs → bad_turn_from n 0 turns ≡ none → length records / n < held_back
-    → Is (joint_call (Call.lent program counts inputs records lengths work) turns) (Refused too_little_lent 0) records lengths work
+    → Is (joint_call (Call.lent program counts inputs records lengths work) turns) (Refused TooLittleLent 0) records lengths work
 unfolding joint_call joint_of
 short_by_room program counts inputs records lengths work turns n k e a s t h =
     let L : Lent = Call.lent program counts inputs records lengths work in

@@ -2,6 +2,7 @@
 use mathlib.Core.Path.{◌≡◌, refl, sym, ap, ◌∙◌}
 use mathlib.Core.List.{List}
 use Prim.Native.Nat.{ℕ}
+use Rattle.refusals.proofs.NumberLaws.{refusal_of, refusal_of_number}
 use Rattle.rules.specs.Lent.{Left}
 use Rattle.rules.specs.Calls.{JointAnswer, refused, complete, still_open}
 use Rattle.rules.specs.CallLaws.{one_left}
@@ -11,13 +12,13 @@ use Rattle.joint.specs.declared.runs.Answer.TheVariants as Answer'
 
 -- the answer that says this, so that no two answers say the same
 untold : JointAnswer → Answer
-untold (refused number place) = Answer'.Refused number place
+untold (refused number place) = Answer'.Refused (refusal_of number) place
 untold (complete turns) = Answer'.Complete turns
 untold (still_open turns) = Answer'.Open turns
 
 untold_told : (a : Answer) → untold (told a) ≡ a
 unfolding untold
-untold_told (Answer'.Refused number place) = refl
+untold_told (Answer'.Refused refusal place) = rw (refusal_of_number refusal)
 untold_told (Answer'.Complete turns) = refl
 untold_told (Answer'.Open turns) = refl
 

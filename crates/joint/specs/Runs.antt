@@ -1,6 +1,7 @@
 -- The joint run in the lent bytes, and what its answers say.
 use Rattle.std.specs.Prelude.{◌≡◌, ℕ, ◌≤◌, ◌<◌, cond, List, ℤ, length, get_or}
 use Rattle.program.specs.Check.{Program, good, checked}
+use Rattle.refusals.specs.Numbers.{number_of}
 use Rattle.records.specs.Events.{held_back}
 use Rattle.rules.specs.Joint.{Sites, Turned, run_turns, start_all, all_finished, book_of}
 use Rattle.rules.specs.Lent as Lent
@@ -13,7 +14,7 @@ use Rattle.joint.specs.declared.runs.Answer.TheVariants as Answer'
 
 -- what the code's answer says, in document 01's numbers
 abbrev pub told : Answer → JointAnswer
-told (Answer'.Refused number place) = refused number place
+told (Answer'.Refused refusal place) = refused (number_of refusal) place
 told (Answer'.Complete turns) = complete turns
 told (Answer'.Open turns) = still_open turns
 

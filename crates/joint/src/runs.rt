@@ -15,11 +15,12 @@ use inputs::counts_fit;
 use limits::Depth;
 use parties::sets::PartySet;
 use records::events::Event;
+use refusals::Refusal;
 
 #[derive(Clone, Copy)]
 pub enum Answer {
     // the refusal, and its place
-    Refused(u8, usize),
+    Refused(Refusal, usize),
     // the turns at which a site stepped or stopped
     Complete(u32),
     Open(u32),
@@ -127,13 +128,13 @@ fn run_lent(
     let parties = n as usize;
     let room = bytes.len() / parties;
     if room < Event::MAX {
-        return Answer::Refused(refusals::TOO_LITTLE_LENT, 0);
+        return Answer::Refused(Refusal::TooLittleLent, 0);
     }
     if lengths.len() < parties {
-        return Answer::Refused(refusals::TOO_LITTLE_LENT, 0);
+        return Answer::Refused(Refusal::TooLittleLent, 0);
     }
     if work.len() < parties * AREA {
-        return Answer::Refused(refusals::TOO_LITTLE_LENT, 0);
+        return Answer::Refused(Refusal::TooLittleLent, 0);
     }
     let answer = drive(
         program, n, nodes, room, counts, inputs, turns, bytes, lengths, work,
@@ -158,10 +159,10 @@ fn run_good(
     ensures { Is (joint_call (record { program = program.now; counts = counts.now; inputs = inputs.now; records = bytes.old; lengths = lengths.old; work = work.old }) turns.now) result bytes.new lengths.new work.new }
 {
     if !counts_fit(counts, n, inputs.len()) {
-        return Answer::Refused(refusals::BAD_COUNTS, 0);
+        return Answer::Refused(Refusal::BadCounts, 0);
     }
     if let Some(index) = ends::bad_turn(turns, n) {
-        return Answer::Refused(refusals::BAD_TURN, index);
+        return Answer::Refused(Refusal::BadTurn, index);
     }
     run_lent(
         program, n, nodes, counts, inputs, turns, bytes, lengths, work,
@@ -181,7 +182,7 @@ pub fn run(
     ensures { Is (joint_call (record { program = program.now; counts = counts.now; inputs = inputs.now; records = bytes.old; lengths = lengths.old; work = work.old }) turns.now) result bytes.new lengths.new work.new }
 {
     match program::check::check(program) {
-        Err(bad) => Answer::Refused(refusals::BAD_PROGRAM, bad.place),
+        Err(bad) => Answer::Refused(Refusal::BadProgram, bad.place),
         Ok(good) => run_good(
             program, good.parties, good.nodes, counts, inputs, turns, bytes, lengths, work,
         ),

@@ -17,7 +17,7 @@ use Rattle.parties.proofs.BitLaws.{none_made}
 use Rattle.values.specs.Values.{had_by}
 use Rattle.values.specs.declared.value.Value.{Value}
 use Rattle.values.specs.declared.value.Held.{Held}
-use Rattle.refusals.specs.Numbers.{wrong_value}
+use Rattle.refusals.specs.declared.Refusal.TheVariants.{WrongValue}
 use Rattle.rules.specs.Rules.{if_clear, hands_back}
 use Rattle.local_rules.specs.Handed.{clear_in}
 use Rattle.std.specs.Prelude.{Option, Some, None}

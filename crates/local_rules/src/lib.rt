@@ -6,11 +6,11 @@ ghost use Rattle.numbers.specs.Integers.{operate, same_integer};
 ghost use Rattle.values.specs.Values.{held};
 ghost use Rattle.values.specs.declared.value.Value.TheVariants.{Share};
 ghost use Rattle.nodes.specs.Nodes.{operation_of};
-ghost use Rattle.refusals.specs.Numbers.{wrong_mode};
 ghost use Rattle.rules.specs.Rules.{unless, hands_back, on_two, on_three, mux, if_clear, alone};
 ghost use Rattle.local_rules.specs.Handed.{clear_in};
 
 use parties::sets::PartySet;
+use refusals::Refusal;
 use rules::effects::{Effect, Move};
 use values::value::Value;
 
@@ -30,7 +30,7 @@ pub fn op(o: u8, x: Value, y: Value, m: PartySet) -> Effect
             let n = nodes::operation_of(o).of(x.number, y.number);
             Effect::Goes(Move::Hand(Value::had_by(m, x.secret, n)))
         }
-        _ => Effect::Refuse(refusals::WRONG_VALUE),
+        _ => Effect::Refuse(Refusal::WrongValue),
     }
 }
 
@@ -50,17 +50,17 @@ pub fn mux(x: Value, y: Value, z: Value, m: PartySet) -> Effect
             let n = chosen(x.number, y.number, z.number);
             Effect::Goes(Move::Hand(Value::had_by(m, x.secret, n)))
         }
-        _ => Effect::Refuse(refusals::WRONG_VALUE),
+        _ => Effect::Refuse(Refusal::WrongValue),
     }
 }
 
 pub fn read(m: PartySet) -> Effect
-    ensures { result ≡ unless wrong_mode (alone m) Effect.Reads }
+    ensures { result ≡ unless Refusal.WrongMode (alone m) Effect.Reads }
 {
     if alone(m) {
         Effect::Reads
     } else {
-        Effect::Refuse(refusals::WRONG_MODE)
+        Effect::Refuse(Refusal::WrongMode)
     }
 }
 
@@ -73,15 +73,15 @@ fn clear_at(x: Value, m: PartySet) -> Option<i32>
 }
 
 pub fn write(x: Value, m: PartySet) -> Effect
-    ensures { result ≡ if_clear (held m x) (λ i. unless wrong_mode (alone m) (Effect.Writes i)) }
+    ensures { result ≡ if_clear (held m x) (λ i. unless Refusal.WrongMode (alone m) (Effect.Writes i)) }
 {
     let Some(i) = clear_at(x, m) else {
-        return Effect::Refuse(refusals::WRONG_VALUE);
+        return Effect::Refuse(Refusal::WrongValue);
     };
     if alone(m) {
         Effect::Writes(i)
     } else {
-        Effect::Refuse(refusals::WRONG_MODE)
+        Effect::Refuse(Refusal::WrongMode)
     }
 }
 
@@ -89,7 +89,7 @@ pub fn embed(x: Value, m: PartySet) -> Effect
     ensures { result ≡ if_clear (held m x) (λ i. hands_back (Share i m m)) }
 {
     let Some(i) = clear_at(x, m) else {
-        return Effect::Refuse(refusals::WRONG_VALUE);
+        return Effect::Refuse(Refusal::WrongValue);
     };
     Effect::Goes(Move::Hand(Value::Share(i, m, m)))
 }
@@ -99,7 +99,7 @@ pub fn case(x: Value, m: PartySet, e1: u16, e2: u16) -> Effect
     ensures { result ≡ if_clear (held m x) (λ i. Effect.Goes (Move.Goto (cond (same_integer i (pos 0)) e2 e1))) }
 {
     let Some(i) = clear_at(x, m) else {
-        return Effect::Refuse(refusals::WRONG_VALUE);
+        return Effect::Refuse(Refusal::WrongValue);
     };
     if i == 0 {
         Effect::Goes(Move::Goto(e2))

@@ -11,7 +11,7 @@ use Rattle.nodes.specs.Nodes.{joint_node, IsJoint}
 use Rattle.nodes.specs.declared.Node.{Node}
 use Rattle.nodes.specs.declared.Node.TheVariants.{VAR, INT, OP, MUX, READ, WRITE, EMBED, SHARE, REVEAL, LET, CASE, PAR, CALL}
 use Rattle.nodes.specs.declared.JointNode.TheVariants.{Neither}
-use Rattle.refusals.specs.Numbers.{name_unbound}
+use Rattle.refusals.specs.declared.Refusal.TheVariants.{NameUnbound}
 use Rattle.rules.specs.Names.{Names, look, look_all, names_of}
 use Rattle.rules.specs.Rules.{judge, rule}
 use Rattle.rules.specs.RuleLaws.{OfKind, rule_holds}
@@ -28,7 +28,7 @@ module _ (view : View) (e : Node) (m : PartySet) (b : Names) (x : Name) (reads :
   unfolding rule look_all
   one_bound v h = rw (reads, found_is x (look m b x) v (sym h))
 
-  pub one_unbound : (y : Unbound) → Err y ≡ sought_of x (look m b x) → Refuse name_unbound ≡ rule view e m b
+  pub one_unbound : (y : Unbound) → Err y ≡ sought_of x (look m b x) → Refuse NameUnbound ≡ rule view e m b
   unfolding rule look_all
   one_unbound y h = rw (reads, (missing_is x (look m b x) y (sym h)).0)
 

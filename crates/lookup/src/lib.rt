@@ -13,6 +13,7 @@ use area::stand::Stand;
 use limits::{Depth, Name};
 use nodes::{JointNode, Node};
 use parties::sets::PartySet;
+use refusals::Refusal;
 use rules::bindings::{Binding, Bindings};
 use rules::effects::{Effect, View};
 use values::value::Value;
@@ -120,7 +121,7 @@ pub fn effect(view: View, node: Node, t: Stand, w: &[u8]) -> Effect
     let m = t.mode;
     let depth = t.depth;
     let Ok(b) = look_all(names_read(node), depth, m, w) else {
-        return Effect::Refuse(refusals::NAME_UNBOUND);
+        return Effect::Refuse(Refusal::NameUnbound);
     };
     judge::judged::judge(view, node, m, b)
 }
@@ -135,14 +136,14 @@ pub fn joint_effect(view: View, node: JointNode, t: Stand, w: &[u8]) -> Effect
     match node {
         JointNode::SHARE(a, q, x) => {
             let Ok(b) = seek(w, depth, m, x) else {
-                return Effect::Refuse(refusals::NAME_UNBOUND);
+                return Effect::Refuse(Refusal::NameUnbound);
             };
             let v = b.value;
             party_rules::share(view, m, a, q, v)
         }
         JointNode::REVEAL(q, x) => {
             let Ok(b) = seek(w, depth, m, x) else {
-                return Effect::Refuse(refusals::NAME_UNBOUND);
+                return Effect::Refuse(Refusal::NameUnbound);
             };
             let v = b.value;
             party_rules::reveal(view, m, q, v)

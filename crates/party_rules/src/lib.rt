@@ -8,6 +8,7 @@ ghost use Rattle.rules.specs.Rules.{hands_back, giver_shares, other_shares, at_s
 
 use limits::Party;
 use parties::sets::PartySet;
+use refusals::Refusal;
 use rules::effects::{Effect, Meeting, Move, Offer, View};
 use values::value::Value;
 
@@ -15,8 +16,8 @@ fn giver_shares(m: PartySet, a: Party, q: PartySet, x: Value) -> Effect
     ensures { result ≡ giver_shares m a q x }
 {
     match x {
-        Value::Nothing => Effect::Refuse(refusals::WRONG_VALUE),
-        Value::Share(_, _, _) => Effect::Refuse(refusals::WRONG_VALUE),
+        Value::Nothing => Effect::Refuse(Refusal::WrongValue),
+        Value::Share(_, _, _) => Effect::Refuse(Refusal::WrongValue),
         Value::Clear(i, l) => {
             if l.has(a) {
                 if m.made_up_by(a, q) {
@@ -25,9 +26,9 @@ fn giver_shares(m: PartySet, a: Party, q: PartySet, x: Value) -> Effect
                         Offer::Secret(i, PartySet::only(a)),
                     );
                 }
-                return Effect::Refuse(refusals::WRONG_MODE);
+                return Effect::Refuse(Refusal::WrongMode);
             }
-            Effect::Refuse(refusals::WRONG_VALUE)
+            Effect::Refuse(Refusal::WrongValue)
         }
     }
 }
@@ -38,7 +39,7 @@ fn other_shares(m: PartySet, a: Party, q: PartySet) -> Effect
     if m.made_up_by(a, q) {
         Effect::Meets(Meeting::Sharing(a, q), Offer::Empty)
     } else {
-        Effect::Refuse(refusals::WRONG_MODE)
+        Effect::Refuse(Refusal::WrongMode)
     }
 }
 
@@ -63,16 +64,16 @@ fn holder_opens(m: PartySet, q: PartySet, x: Value) -> Effect
     ensures { result ≡ holder_opens m q x }
 {
     match x {
-        Value::Nothing => Effect::Refuse(refusals::WRONG_VALUE),
-        Value::Clear(_, _) => Effect::Refuse(refusals::WRONG_VALUE),
+        Value::Nothing => Effect::Refuse(Refusal::WrongValue),
+        Value::Clear(_, _) => Effect::Refuse(Refusal::WrongValue),
         Value::Share(i, h, l) => {
             if l == h {
                 if h.join(q) == m {
                     return Effect::Meets(Meeting::Revealing(q), Offer::Secret(i, h));
                 }
-                return Effect::Refuse(refusals::WRONG_MODE);
+                return Effect::Refuse(Refusal::WrongMode);
             }
-            Effect::Refuse(refusals::WRONG_VALUE)
+            Effect::Refuse(Refusal::WrongValue)
         }
     }
 }
@@ -86,7 +87,7 @@ fn site_without(m: PartySet, q: PartySet, p: Party, x: Value) -> Effect
             if q.has(p) {
                 Effect::Meets(Meeting::Revealing(q), Offer::Empty)
             } else {
-                Effect::Refuse(refusals::WRONG_MODE)
+                Effect::Refuse(Refusal::WrongMode)
             }
         }
         Value::Clear(_, _) => holder_opens(m, q, x),

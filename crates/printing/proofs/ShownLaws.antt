@@ -4,6 +4,7 @@ use Prim.Native.Nat.{ℕ, ◌≤◌}
 use mathlib.Core.List.{List}
 use native.Mathlib.Omega.{arith}
 use lib.ListN.{length}
+use Rattle.refusals.specs.Numbers.{number_of}
 use Rattle.rules.specs.Lent.{Left}
 use Rattle.rules.specs.Calls.{SingleAnswer, JointAnswer}
 use Rattle.single.specs.Runs as SingleRuns
@@ -29,13 +30,13 @@ joint_lines_lem n X a rs ls w i = rw (i.answer, i.records, i.lengths)
 -- how long the lines of one run are at most
 pub single_short : (n : ℕ) (a : SingleAnswers.Answer) (rs ls : List ℕ) → single_fits a n rs ls → length (single_lines n (single_shown a rs ls)) ≤ most_of_one
 unfolding single_lines after_single ascii
-single_short n (SingleAnswers.TheVariants.Refused number place) rs ls f = omega (arith, two_short (ascii "single refused ") number place)
-single_short n (SingleAnswers.TheVariants.Stopped number node steps) rs ls f = after_short _ n rs ls (two_numbers (ascii "single stopped ") number node) (two_short (ascii "single stopped ") number node) f
+single_short n (SingleAnswers.TheVariants.Refused refusal place) rs ls f = omega (arith, two_short (ascii "single refused ") (number_of refusal) place)
+single_short n (SingleAnswers.TheVariants.Stopped refusal node steps) rs ls f = after_short _ n rs ls (two_numbers (ascii "single stopped ") (number_of refusal) node) (two_short (ascii "single stopped ") (number_of refusal) node) f
 single_short n (SingleAnswers.TheVariants.Ended steps) rs ls f = after_short _ n rs ls (one_number (ascii "single ended ") steps) (omega (arith, one_short (ascii "single ended ") steps)) f
 single_short n (SingleAnswers.TheVariants.Budget steps) rs ls f = after_short _ n rs ls (one_number (ascii "single budget ") steps) (omega (arith, one_short (ascii "single budget ") steps)) f
 
 pub joint_short : (n : ℕ) (a : JointAnswers.Answer) (rs ls : List ℕ) → joint_fits a n rs ls → length (joint_lines n (joint_shown a rs ls)) ≤ most_of_one
 unfolding joint_lines after_joint ascii
-joint_short n (JointAnswers.TheVariants.Refused number place) rs ls f = omega (arith, two_short (ascii "joint refused ") number place)
+joint_short n (JointAnswers.TheVariants.Refused refusal place) rs ls f = omega (arith, two_short (ascii "joint refused ") (number_of refusal) place)
 joint_short n (JointAnswers.TheVariants.Complete turns) rs ls f = after_short _ n rs ls (one_number (ascii "joint complete ") turns) (omega (arith, one_short (ascii "joint complete ") turns)) f
 joint_short n (JointAnswers.TheVariants.Open turns) rs ls f = after_short _ n rs ls (one_number (ascii "joint open ") turns) (omega (arith, one_short (ascii "joint open ") turns)) f

@@ -37,13 +37,13 @@ pub record Fit (n : ℕ) (records lengths : List ℕ) : Type 0 where
 
 -- after `refused` no record is shown
 abbrev pub single_fits : SingleAnswers.Answer → (n : ℕ) → (records lengths : List ℕ) → Type 0
-single_fits (SingleAnswers.TheVariants.Refused number place) n records lengths = Unit
-single_fits (SingleAnswers.TheVariants.Stopped number node steps) n records lengths = Fit n records lengths
+single_fits (SingleAnswers.TheVariants.Refused refusal place) n records lengths = Unit
+single_fits (SingleAnswers.TheVariants.Stopped refusal node steps) n records lengths = Fit n records lengths
 single_fits (SingleAnswers.TheVariants.Ended steps) n records lengths = Fit n records lengths
 single_fits (SingleAnswers.TheVariants.Budget steps) n records lengths = Fit n records lengths
 
 abbrev pub joint_fits : JointAnswers.Answer → (n : ℕ) → (records lengths : List ℕ) → Type 0
-joint_fits (JointAnswers.TheVariants.Refused number place) n records lengths = Unit
+joint_fits (JointAnswers.TheVariants.Refused refusal place) n records lengths = Unit
 joint_fits (JointAnswers.TheVariants.Complete turns) n records lengths = Fit n records lengths
 joint_fits (JointAnswers.TheVariants.Open turns) n records lengths = Fit n records lengths
 

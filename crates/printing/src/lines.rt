@@ -79,15 +79,15 @@ pub fn put_single(
     ensures { Puts (single_lines n (single_shown answer records.now lengths.now)) at result out.old out.new }
 {
     match answer {
-        single::runs::Answer::Refused(number, place) => put_two(
+        single::runs::Answer::Refused(refusal, place) => put_two(
             b"single refused ",
-            number as u64,
+            u8::from(refusal) as u64,
             place as u64,
             out,
             at,
         ),
-        single::runs::Answer::Stopped(number, node, _) => {
-            let end = put_two(b"single stopped ", number as u64, node as u64, out, at);
+        single::runs::Answer::Stopped(refusal, node, _) => {
+            let end = put_two(b"single stopped ", u8::from(refusal) as u64, node as u64, out, at);
             put_records(n, records, lengths, out, end)
         }
         single::runs::Answer::Ended(steps) => put_counted(
@@ -124,9 +124,9 @@ pub fn put_joint(
     ensures { Puts (joint_lines n (joint_shown answer records.now lengths.now)) at result out.old out.new }
 {
     match answer {
-        joint::runs::Answer::Refused(number, place) => put_two(
+        joint::runs::Answer::Refused(refusal, place) => put_two(
             b"joint refused ",
-            number as u64,
+            u8::from(refusal) as u64,
             place as u64,
             out,
             at,

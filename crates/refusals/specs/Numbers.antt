@@ -1,5 +1,7 @@
 -- Document 01, "Refusal numbers, in the order tried".
 use Rattle.std.specs.Prelude.{ℕ}
+use Rattle.refusals.specs.declared.Refusal.{Refusal}
+use Rattle.refusals.specs.declared.Refusal.TheVariants.{BadProgram, BadCounts, BadTurn, TooLittleLent, NameUnbound, WrongValue, WrongMode, NoInput, NoRoom, TooDeep, Disagreement, NotAnEvent}
 
 -- "bad program"
 abbrev pub bad_program : ℕ
@@ -48,3 +50,18 @@ disagreement = 11
 -- "not an event (record walk only)"
 abbrev pub not_an_event : ℕ
 not_an_event = 12
+
+-- a refusal's number
+abbrev pub number_of : Refusal → ℕ
+number_of BadProgram = bad_program
+number_of BadCounts = bad_counts
+number_of BadTurn = bad_turn
+number_of TooLittleLent = too_little_lent
+number_of NameUnbound = name_unbound
+number_of WrongValue = wrong_value
+number_of WrongMode = wrong_mode
+number_of NoInput = no_input
+number_of NoRoom = no_room
+number_of TooDeep = too_deep
+number_of Disagreement = disagreement
+number_of NotAnEvent = not_an_event

@@ -1,26 +1,29 @@
-// The numbers of the refusals, in the order tried. specs/Numbers.antt has document 01's words for each.
+// The refusals of document 01, in the order tried. specs/Numbers.antt has its words for each.
 #![tactic(auto)]
 
-pub const BAD_PROGRAM: u8 = 1;
+ghost use Rattle.std.specs.Prelude.{◌≡◌};
+ghost use Rattle.refusals.specs.Numbers.{number_of};
 
-pub const BAD_COUNTS: u8 = 2;
+#[derive(Clone, Copy, PartialEq, Eq, Debug)]
+pub enum Refusal {
+    BadProgram = 1,
+    BadCounts = 2,
+    BadTurn = 3,
+    TooLittleLent = 4,
+    NameUnbound = 5,
+    WrongValue = 6,
+    WrongMode = 7,
+    NoInput = 8,
+    NoRoom = 9,
+    TooDeep = 10,
+    Disagreement = 11,
+    NotAnEvent = 12,
+}
 
-pub const BAD_TURN: u8 = 3;
+impl From<Refusal> for u8 {
+    ghost from_gives = { λ refusal number. number ≡ number_of refusal };
 
-pub const TOO_LITTLE_LENT: u8 = 4;
-
-pub const NAME_UNBOUND: u8 = 5;
-
-pub const WRONG_VALUE: u8 = 6;
-
-pub const WRONG_MODE: u8 = 7;
-
-pub const NO_INPUT: u8 = 8;
-
-pub const NO_ROOM: u8 = 9;
-
-pub const TOO_DEEP: u8 = 10;
-
-pub const DISAGREEMENT: u8 = 11;
-
-pub const NOT_AN_EVENT: u8 = 12;
+    fn from(refusal: Refusal) -> u8 {
+        refusal as u8
+    }
+}

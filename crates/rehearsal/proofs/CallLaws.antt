@@ -45,8 +45,8 @@ module _ (L : Lent) (rs ls : List ℕ) (r : length rs ≡ length L.records) (p :
         fit c (λ P l. rw (i.lengths, single_length L budget c P l) (single_fits_lem (setting_of c.program L) (inputs_of L) (enough c).room budget P l))
 
     pub single_call_fits : (w : List ℕ) (a : SingleAnswers.Answer) → SingleRuns.Is (single_call L budget) a rs ls w → single_fits a n rs ls
-    single_call_fits w (SingleAnswers.TheVariants.Refused number place) i = tt
-    single_call_fits w (SingleAnswers.TheVariants.Stopped number node steps) i = single_run i tt
+    single_call_fits w (SingleAnswers.TheVariants.Refused refusal place) i = tt
+    single_call_fits w (SingleAnswers.TheVariants.Stopped refusal node steps) i = single_run i tt
     single_call_fits w (SingleAnswers.TheVariants.Ended steps) i = single_run i tt
     single_call_fits w (SingleAnswers.TheVariants.Budget steps) i = single_run i tt
 
@@ -58,6 +58,6 @@ module _ (L : Lent) (rs ls : List ℕ) (r : length rs ≡ length L.records) (p :
         fit c (λ P l. rw (i.lengths, joint_length L turns c P l) (joint_fits_lem (setting_of c.program L) (inputs_of L) (enough c).room turns P))
 
     pub joint_call_fits : (w : List ℕ) (a : JointAnswers.Answer) → JointRuns.Is (joint_call L turns) a rs ls w → joint_fits a n rs ls
-    joint_call_fits w (JointAnswers.TheVariants.Refused number place) i = tt
+    joint_call_fits w (JointAnswers.TheVariants.Refused refusal place) i = tt
     joint_call_fits w (JointAnswers.TheVariants.Complete turned) i = joint_run i tt
     joint_call_fits w (JointAnswers.TheVariants.Open turned) i = joint_run i tt

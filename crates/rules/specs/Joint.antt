@@ -8,7 +8,7 @@ use Rattle.values.specs.Values.{slice}
 use Rattle.values.specs.declared.value.Value.{Value}
 use Rattle.values.specs.declared.value.Value.TheVariants.{Clear}
 use Rattle.program.specs.Check.{node_at}
-use Rattle.refusals.specs.Numbers.{no_input, no_room, too_deep, disagreement}
+use Rattle.refusals.specs.Numbers.{number_of, no_input, no_room, too_deep, disagreement}
 use Rattle.records.specs.Events.{finished}
 use Rattle.records.specs.declared.events.Event.{Event}
 use Rattle.records.specs.declared.events.Event.TheVariants.{Read, Wrote, Stopped}
@@ -60,7 +60,7 @@ pub data Own : Type 0 where
   attends : Meeting → Offer → Own
 
 unfoldable pub perform_own : Setting → ℕ → Control → Book → Effect → Own
-perform_own S P c b (Refuse refusal) = acts (stop refusal c.node b)
+perform_own S P c b (Refuse refusal) = acts (stop (number_of refusal) c.node b)
 perform_own S P c b (Goes mv) = acts (settle S P c b none mv)
 perform_own S P c b Reads = acts (read_own S P c b b.inputs)
 perform_own S P c b (Writes i) = acts (settle S P c b (some (Wrote i)) (Hand (Clear (pos 0) c.mode)))

@@ -6,6 +6,7 @@ use Rattle.parties.specs.declared.sets.PartySet.{PartySet}
 use Rattle.values.specs.Values.{restrict}
 use Rattle.values.specs.declared.value.Value.TheVariants.{Nothing, Clear, Share}
 use Rattle.nodes.specs.declared.Node.TheVariants.{SHARE}
+use Rattle.refusals.specs.declared.Refusal.TheVariants.{WrongMode}
 use Rattle.rules.specs.Names.{none_bound, bind}
 use Rattle.rules.specs.Lent.{Left}
 use Rattle.rules.specs.Calls.{SingleAnswer, stopped_at, ended_after, budget_used, JointAnswer, complete, still_open}
@@ -61,7 +62,7 @@ pub record Marked : Type 0 where
   pub holders_kept : restrict (set 1) (Share (pos 7) (set 3) (set 3)) ≡ Share (pos 7) (set 3) (set 1)
   -- SHARE with a=0, q={1} fits mode {0,1} and not {0,1,2}
   pub share_fits : share (set 3) ≡ Meets (Sharing (record { index = 0 }) (set 2)) (Secret (pos 7) (set 1))
-  pub share_fits_not : share (set 7) ≡ Refuse 7
+  pub share_fits_not : share (set 7) ≡ Refuse WrongMode
   -- R = 26 suffices; with R = 25 the single run stops with 9 at node 3
   pub room_26 : single 26 100 ≡ leaves 26 (ended_after 6) record0 record1 26 17
   pub room_25 : single 25 100 ≡ leaves 25 (stopped_at 9 3 5) (take 9 record0) (take 4 record1) 9 4

@@ -16,7 +16,8 @@ use Rattle.values.specs.declared.value.Held.{Held}
 use Rattle.nodes.specs.Nodes.{operation_of}
 use Rattle.nodes.specs.declared.Node.{Node}
 use Rattle.nodes.specs.declared.Node.TheVariants.{VAR, INT, OP, MUX, READ, WRITE, EMBED, SHARE, REVEAL, LET, CASE, PAR, CALL}
-use Rattle.refusals.specs.Numbers.{name_unbound, wrong_value, wrong_mode}
+use Rattle.refusals.specs.declared.Refusal.{Refusal}
+use Rattle.refusals.specs.declared.Refusal.TheVariants.{NameUnbound, WrongValue, WrongMode}
 use Rattle.rules.specs.Names.{Names, Looked, found, unbound, look_all, names_of, first, second, third}
 use Rattle.rules.specs.Rules.{unless, hands_back, on_two, on_three, mux, if_clear, alone, giver_shares, other_shares, at_share, holder_opens, at_reveal, goes_in, judge, with_values, rule}
 use Rattle.rules.specs.declared.effects.View.{View}
@@ -56,20 +57,20 @@ pub at_site : (w : View) {X : Type 0} → X → AtSite w X
 at_site Whole x = tt
 at_site (Site P) x = x
 
-module _ (m : PartySet) (H : Effect → Type 0) (value : H (Refuse wrong_value)) (mode : H (Refuse wrong_mode)) where
+module _ (m : PartySet) (H : Effect → Type 0) (value : H (Refuse WrongValue)) (mode : H (Refuse WrongMode)) where
   -- a test, after which the refusal or the effect follows
-  unless_holds : (refusal : ℕ) (t : Bool) (e : Effect) → H (Refuse refusal) → (t ≡ true → H e) → H (unless refusal t e)
+  unless_holds : (refusal : Refusal) (t : Bool) (e : Effect) → H (Refuse refusal) → (t ≡ true → H e) → H (unless refusal t e)
   unless_holds refusal true e r h = h refl
   unless_holds refusal false e r h = r
 
   two_holds : (f : ℤ → ℤ → ℤ) (x y : Option Held) → ((s : Bool) (i j : ℤ) → H (hands_back (had_by m s (f i j)))) → H (on_two m f x y)
-  two_holds f (Some x) (Some y) k = unless_holds wrong_value (beq x.secret y.secret) _ value (λ e. k x.secret x.number y.number)
+  two_holds f (Some x) (Some y) k = unless_holds WrongValue (beq x.secret y.secret) _ value (λ e. k x.secret x.number y.number)
   two_holds f (Some x) None k = value
   two_holds f None y k = value
 
   three_holds : (f : ℤ → ℤ → ℤ → ℤ) (x y z : Option Held)
       → ((a b c : Held) → x ≡ Some a → y ≡ Some b → z ≡ Some c → H (hands_back (had_by m a.secret (f a.number b.number c.number)))) → H (on_three m f x y z)
-  three_holds f (Some a) (Some b) (Some c) l = unless_holds wrong_value (beq a.secret b.secret && beq a.secret c.secret) _ value (λ e. l a b c refl refl refl)
+  three_holds f (Some a) (Some b) (Some c) l = unless_holds WrongValue (beq a.secret b.secret && beq a.secret c.secret) _ value (λ e. l a b c refl refl refl)
   three_holds f (Some a) (Some b) None l = value
   three_holds f (Some a) None z l = value
   three_holds f None y z l = value
@@ -78,7 +79,7 @@ module _ (m : PartySet) (H : Effect → Type 0) (value : H (Refuse wrong_value))
   clear_holds None k h = value
   clear_holds (Some a) k h = go a.secret refl
     where
-      go : (s : Bool) → a.secret ≡ s → H (cond s (Refuse wrong_value) (k a.number))
+      go : (s : Bool) → a.secret ≡ s → H (cond s (Refuse WrongValue) (k a.number))
       go true e = value
       go false e = h a.number (ap (λ (s : Bool). Some (record { secret = s; number = a.number })) e)
 
@@ -88,7 +89,7 @@ module _ (m : PartySet) (H : Effect → Type 0) (value : H (Refuse wrong_value))
     unfolding giver_shares
     giver_holds Nothing k = value
     giver_holds (Clear i l) k =
-        unless_holds wrong_value (member a.index l) _ value (λ e. unless_holds wrong_mode (make_up a.index q m) _ mode (λ f. k i l refl f))
+        unless_holds WrongValue (member a.index l) _ value (λ e. unless_holds WrongMode (make_up a.index q m) _ mode (λ f. k i l refl f))
     giver_holds (Share i h l) k = value
 
     share_holds : (w : View) (v : Value) (x : Name) (vs : List Value) → first vs ≡ v → OfKind w m H vs (SHARE a q x) → H (at_share w m a q v)
@@ -98,7 +99,7 @@ module _ (m : PartySet) (H : Effect → Type 0) (value : H (Refuse wrong_value))
       where
         go : (t : Bool) → H (cond t (giver_shares m a q v) (other_shares m a q))
         go true = giver_holds v (λ i l f. k.0 i l (e ∙ f))
-        go false = unless_holds wrong_mode (make_up a.index q m) _ mode k.1
+        go false = unless_holds WrongMode (make_up a.index q m) _ mode k.1
 
   module _ (q : PartySet) where
     opens_holds : (v : Value) → ((i : ℤ) (h l : PartySet) → v ≡ Share i h l → same_set (join h q) m ≡ true → H (Meets (Revealing q) (Secret i h))) → H (holder_opens m q v)
@@ -106,12 +107,12 @@ module _ (m : PartySet) (H : Effect → Type 0) (value : H (Refuse wrong_value))
     opens_holds Nothing k = value
     opens_holds (Clear i l) k = value
     opens_holds (Share i h l) k =
-        unless_holds wrong_value (same_set l h) _ value (λ e. unless_holds wrong_mode (same_set (join h q) m) _ mode (λ f. k i h l refl f))
+        unless_holds WrongValue (same_set l h) _ value (λ e. unless_holds WrongMode (same_set (join h q) m) _ mode (λ f. k i h l refl f))
 
     reveal_holds : (w : View) (v : Value) (x : Name) (vs : List Value) → first vs ≡ v → OfKind w m H vs (REVEAL q x) → H (at_reveal w m q v)
     unfolding at_reveal
     reveal_holds Whole v x vs e k = opens_holds v (λ i h l f. k.0 i h l (e ∙ f))
-    reveal_holds (Site P) Nothing x vs e k = unless_holds wrong_mode (member P.index q) _ mode (λ f. k.1)
+    reveal_holds (Site P) Nothing x vs e k = unless_holds WrongMode (member P.index q) _ mode (λ f. k.1)
     reveal_holds (Site P) (Clear i l) x vs e k = opens_holds (Clear i l) (λ j h n f. k.0 j h n (e ∙ f))
     reveal_holds (Site P) (Share i h l) x vs e k = opens_holds (Share i h l) (λ j g n f. k.0 j g n (e ∙ f))
 
@@ -125,8 +126,8 @@ module _ (m : PartySet) (H : Effect → Type 0) (value : H (Refuse wrong_value))
   judge_holds w (INT i) vs k = k
   judge_holds w (OP o x y) vs k = two_holds (operate (operation_of o)) (held m (first vs)) (held m (second vs)) k
   judge_holds w (MUX x y z) vs k = three_holds mux (held m (first vs)) (held m (second vs)) (held m (third vs)) k
-  judge_holds w READ vs k = unless_holds wrong_mode (alone m) Reads mode (λ e. k (eqb-true (count m) 1 e))
-  judge_holds w (WRITE x) vs k = clear_holds (held m (first vs)) _ (λ i h. unless_holds wrong_mode (alone m) (Writes i) mode (λ e. k i h))
+  judge_holds w READ vs k = unless_holds WrongMode (alone m) Reads mode (λ e. k (eqb-true (count m) 1 e))
+  judge_holds w (WRITE x) vs k = clear_holds (held m (first vs)) _ (λ i h. unless_holds WrongMode (alone m) (Writes i) mode (λ e. k i h))
   judge_holds w (EMBED x) vs k = clear_holds (held m (first vs)) _ k
   judge_holds w (SHARE a q x) vs k = share_holds a q w (first vs) x vs refl k
   judge_holds w (REVEAL q x) vs k = reveal_holds q w (first vs) x vs refl k
@@ -135,7 +136,7 @@ module _ (m : PartySet) (H : Effect → Type 0) (value : H (Refuse wrong_value))
   judge_holds w (PAR p e) vs k = par_holds (goes_in w m p) p e k.0 k.1
   judge_holds w (CALL f x) vs k = k
 
-  pub rule_holds : (w : View) (e : Node) (b : Names) → H (Refuse name_unbound) → ((vs : List Value) → look_all m b (names_of e) ≡ found vs → OfKind w m H vs e) → H (rule w e m b)
+  pub rule_holds : (w : View) (e : Node) (b : Names) → H (Refuse NameUnbound) → ((vs : List Value) → look_all m b (names_of e) ≡ found vs → OfKind w m H vs e) → H (rule w e m b)
   unfolding rule
   rule_holds w e b unknown k = go (look_all m b (names_of e)) refl
     where

@@ -7,7 +7,7 @@ use Rattle.values.specs.Values.{slice}
 use Rattle.values.specs.declared.value.Value.{Value}
 use Rattle.values.specs.declared.value.Value.TheVariants.{Clear}
 use Rattle.program.specs.Check.{Program, node_at}
-use Rattle.refusals.specs.Numbers.{wrong_value, no_input, no_room, too_deep}
+use Rattle.refusals.specs.Numbers.{number_of, wrong_value, no_input, no_room, too_deep}
 use Rattle.records.specs.Events.{finished}
 use Rattle.records.specs.declared.events.Event.{Event}
 use Rattle.records.specs.declared.events.Event.TheVariants.{Read, Wrote}
@@ -62,7 +62,7 @@ read_all S t c b (i ∷ is) = settle_all S t c b (some (Read i)) (Hand (Clear i 
 -- What an effect does; a write hands back 0, where 001 hands back what was written. All checks of SHARE and REVEAL are made at once here, so
 -- nobody meets with empty hands (whole_sound): that case is there for the sites, and would be a value of the wrong sort.
 unfoldable pub perform : Setting → ℕ → Control → Books → Effect → Single
-perform S t c b (Refuse refusal) = stopped t refusal c.node b
+perform S t c b (Refuse refusal) = stopped t (number_of refusal) c.node b
 perform S t c b (Goes mv) = settle_all S t c b none mv
 perform S t c b Reads = read_all S t c b (b (lowest c.mode)).inputs
 perform S t c b (Writes i) = settle_all S t c b (some (Wrote i)) (Hand (Clear (pos 0) c.mode))

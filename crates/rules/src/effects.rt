@@ -1,6 +1,7 @@
 // What a rule asks to be done. A rule only looks; whoever asked it then moves, writes or meets.
 use limits::{Name, Party};
 use parties::sets::PartySet;
+use refusals::Refusal;
 use values::value::Value;
 
 // Who takes the step: all of the mode at once, or one site on its own slice.
@@ -43,7 +44,7 @@ pub enum Offer {
 
 #[derive(Clone, Copy)]
 pub enum Effect {
-    Refuse(u8),
+    Refuse(Refusal),
     Goes(Move),
     // the next input is read
     Reads,

@@ -11,7 +11,7 @@ use Rattle.records.specs.Events.{held_back}
 use Rattle.rules.specs.Single.{Single, after}
 use Rattle.rules.specs.Lent.{Lent, sum, room_of, inputs_of, counts_fit, enough_lent}
 use Rattle.rules.specs.Calls.{single_left, single_of, single_call}
-use Rattle.refusals.specs.Numbers.{too_little_lent}
+use Rattle.refusals.specs.declared.Refusal.TheVariants.{TooLittleLent}
 use Rattle.inputs.proofs.InputLaws.{counts_fit_is}
 use Rattle.ledger.proofs.LentLaws.{short_room}
 use Rattle.ledger.proofs.CallLaws as Call
@@ -38,7 +38,7 @@ module _ (L : Lent) (n : ℕ) (xs ls w : List ℕ) (zero : w ≡ replicate (leng
 
 -- too little room for a record, by the code's tests
 pub short_by_room : (program counts : List ℕ) (inputs : List ℤ) (records lengths work : List ℕ) (budget n k : ℕ) → check_answer program ≡ accepted n k → (eqb (length counts) n && eqb (sum counts) (length inputs)) ≡ true → length records / n < held_back
-    → Is (single_call (Call.lent program counts inputs records lengths work) budget) (Refused too_little_lent 0) records lengths work
+    → Is (single_call (Call.lent program counts inputs records lengths work) budget) (Refused TooLittleLent 0) records lengths work
 unfolding single_call single_of
 short_by_room program counts inputs records lengths work budget n k e f h =
     let L : Lent = Call.lent program counts inputs records lengths work in

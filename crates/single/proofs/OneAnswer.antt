@@ -2,6 +2,7 @@
 use mathlib.Core.Path.{◌≡◌, refl, sym, ap, ◌∙◌}
 use mathlib.Core.List.{List}
 use Prim.Native.Nat.{ℕ}
+use Rattle.refusals.proofs.NumberLaws.{refusal_of, refusal_of_number}
 use Rattle.rules.specs.Lent.{Left}
 use Rattle.rules.specs.Calls.{SingleAnswer, refused, stopped_at, ended_after, budget_used}
 use Rattle.rules.specs.CallLaws.{one_left}
@@ -11,15 +12,15 @@ use Rattle.single.specs.declared.runs.Answer.TheVariants as Answer'
 
 -- the answer that says this, so that no two answers say the same
 untold : SingleAnswer → Answer
-untold (refused number place) = Answer'.Refused number place
-untold (stopped_at number node steps) = Answer'.Stopped number node steps
+untold (refused number place) = Answer'.Refused (refusal_of number) place
+untold (stopped_at number node steps) = Answer'.Stopped (refusal_of number) node steps
 untold (ended_after steps) = Answer'.Ended steps
 untold (budget_used steps) = Answer'.Budget steps
 
 untold_told : (a : Answer) → untold (told a) ≡ a
 unfolding untold
-untold_told (Answer'.Refused number place) = refl
-untold_told (Answer'.Stopped number node steps) = refl
+untold_told (Answer'.Refused refusal place) = rw (refusal_of_number refusal)
+untold_told (Answer'.Stopped refusal node steps) = rw (refusal_of_number refusal)
 untold_told (Answer'.Ended steps) = refl
 untold_told (Answer'.Budget steps) = refl
 

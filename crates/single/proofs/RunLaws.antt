@@ -8,6 +8,8 @@ use lib.ListN.{length, take}
 use Rattle.limits.specs.Limits.{max_frames}
 use Rattle.values.specs.declared.value.Value.{Value}
 use Rattle.program.specs.Check.{Program, good, checked}
+use Rattle.refusals.specs.Numbers.{number_of}
+use Rattle.refusals.specs.declared.Refusal.{Refusal}
 use Rattle.rules.specs.Books.{Books}
 use Rattle.rules.specs.Moves.{Control}
 use Rattle.rules.specs.Single.{Setting, Single, going, ended, stopped, step, run}
@@ -110,15 +112,15 @@ module _ (bs : List ℕ) (nodes room n : ℕ) (is : List ℤ) (end : List ℕ) (
               (v, b, sym r ∙ ap (run S (budget - k - 1)) es ∙ run_ended S (budget - k - 1) (k + 1) v b, holds);
         }
 
-    goes_stop : (m : ℕ) → y ≡ Stopped m → RunsOn bs nodes room n is end budget t₀ (Answer'.Stopped m t.node k) l₀ l'.bytes l'.lengths
+    goes_stop : (refusal : Refusal) → y ≡ Stopped refusal → RunsOn bs nodes room n is end budget t₀ (Answer'.Stopped refusal t.node k) l₀ l'.bytes l'.lengths
     unfolding Onward
-    goes_stop m e =
+    goes_stop refusal e =
         record {
           comes = λ G ei ee p g q len places b₀ st.
               let (s, c, r) = onward G ei ee p g q len places b₀ st in
               let (b, es, holds) = subst (λ (x : Stepped). Comes x G k t.node s l') e c in
               let S : Setting = record { program = p; room = room } in
-              (b, sym r ∙ ap (run S (budget - k - 1)) es ∙ run_stopped S (budget - k - 1) k m t.node b, holds);
+              (b, sym r ∙ ap (run S (budget - k - 1)) es ∙ run_stopped S (budget - k - 1) k (number_of refusal) t.node b, holds);
         }
 
   -- moves alone: each is a step that leads on
@@ -152,8 +154,8 @@ module _ (bs : List ℕ) (nodes room n : ℕ) (is : List ℤ) (end : List ℕ) (
     pub stride_end : s.came ≡ Ended → RunsOn bs nodes room n is end budget t₀ (Answer'.Ended (k + s.moves + 1)) l₀ l'.bytes l'.lengths
     stride_end = goes_end d.1 (k + s.moves) _ l' s.came there few stride_within d.5
 
-    pub stride_stop : (m : ℕ) → s.came ≡ Stopped m → RunsOn bs nodes room n is end budget t₀ (Answer'.Stopped m s.node (k + s.moves)) l₀ l'.bytes l'.lengths
-    stride_stop m e = rw d.4 (goes_stop d.1 (k + s.moves) _ l' s.came there few stride_within d.5 m e)
+    pub stride_stop : (refusal : Refusal) → s.came ≡ Stopped refusal → RunsOn bs nodes room n is end budget t₀ (Answer'.Stopped refusal s.node (k + s.moves)) l₀ l'.bytes l'.lengths
+    stride_stop refusal e = rw d.4 (goes_stop d.1 (k + s.moves) _ l' s.came there few stride_within d.5 refusal e)
 
   pub goes_out : (t : Stand) (k : ℕ) (l : Lists) → Going t k l → budget ≤ k → RunsOn bs nodes room n is end budget t₀ (Answer'.Budget k) l₀ l.bytes l.lengths
   unfolding run

@@ -2,6 +2,7 @@
 use Rattle.std.specs.Prelude.{◌≡◌, ℕ, ◌≤◌, List, ℤ, length}
 use Rattle.values.specs.declared.value.Value.{Value}
 use Rattle.program.specs.Check.{Program, good, checked}
+use Rattle.refusals.specs.Numbers.{number_of}
 use Rattle.records.specs.Events.{held_back}
 use Rattle.rules.specs.Books.{Books}
 use Rattle.rules.specs.Moves.{Control}
@@ -19,15 +20,15 @@ use Rattle.single.specs.declared.runs.Answer.TheVariants as Answer'
 
 -- what the code's answer says, in document 01's numbers
 abbrev pub told : Answer → SingleAnswer
-told (Answer'.Refused number place) = refused number place
-told (Answer'.Stopped number node steps) = stopped_at number node steps
+told (Answer'.Refused refusal place) = refused (number_of refusal) place
+told (Answer'.Stopped refusal node steps) = stopped_at (number_of refusal) node steps
 told (Answer'.Ended steps) = ended_after steps
 told (Answer'.Budget steps) = budget_used steps
 
 -- an answer a of a run that came to the state s, whose books the bytes and lengths hold
 abbrev pub Finishes : Answer → (R n : ℕ) → (xs₀ ls₀ : List ℕ) → Single → (xs ls : List ℕ) → Type 0
-Finishes (Answer'.Refused number place) R n xs₀ ls₀ s xs ls = ⊥
-Finishes (Answer'.Stopped r e k) R n xs₀ ls₀ s xs ls = (b : Books) × (s ≡ stopped k r e b) × Holds R n b xs₀ ls₀ xs ls
+Finishes (Answer'.Refused refusal place) R n xs₀ ls₀ s xs ls = ⊥
+Finishes (Answer'.Stopped r e k) R n xs₀ ls₀ s xs ls = (b : Books) × (s ≡ stopped k (number_of r) e b) × Holds R n b xs₀ ls₀ xs ls
 Finishes (Answer'.Ended k) R n xs₀ ls₀ s xs ls = (v : Value) × (b : Books) × (s ≡ ended k v b) × Holds R n b xs₀ ls₀ xs ls
 Finishes (Answer'.Budget k) R n xs₀ ls₀ s xs ls = (c : Control) × (b : Books) × (s ≡ going k c b) × Holds R n b xs₀ ls₀ xs ls
 

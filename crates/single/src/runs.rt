@@ -12,14 +12,15 @@ use inputs::counts_fit;
 use limits::Depth;
 use parties::sets::PartySet;
 use records::events::Event;
+use refusals::Refusal;
 use single_step::Stepped;
 
 #[derive(Clone, Copy)]
 pub enum Answer {
     // the refusal, and its place
-    Refused(u8, usize),
+    Refused(Refusal, usize),
     // the refusal, the node, and the steps taken before
-    Stopped(u8, u16, u32),
+    Stopped(Refusal, u16, u32),
     // the steps
     Ended(u32),
     Budget(u32),
@@ -130,13 +131,13 @@ fn run_good(
         let parties = n as usize;
         let room = bytes.len() / parties;
         if room < Event::MAX {
-            return Answer::Refused(refusals::TOO_LITTLE_LENT, 0);
+            return Answer::Refused(Refusal::TooLittleLent, 0);
         }
         if lengths.len() < parties {
-            return Answer::Refused(refusals::TOO_LITTLE_LENT, 0);
+            return Answer::Refused(Refusal::TooLittleLent, 0);
         }
         if work.len() < AREA {
-            return Answer::Refused(refusals::TOO_LITTLE_LENT, 0);
+            return Answer::Refused(Refusal::TooLittleLent, 0);
         }
         let answer = drive(
             program,
@@ -153,7 +154,7 @@ fn run_good(
         stretches::zero(work);
         return answer;
     }
-    Answer::Refused(refusals::BAD_COUNTS, 0)
+    Answer::Refused(Refusal::BadCounts, 0)
 }
 
 // The single run of a program. `bytes` are the records, side by side. A refused call changes nothing that was lent.
@@ -169,7 +170,7 @@ pub fn run(
     ensures { Is (single_call (record { program = program.now; counts = counts.now; inputs = inputs.now; records = bytes.old; lengths = lengths.old; work = work.old }) budget) result bytes.new lengths.new work.new }
 {
     match program::check::check(program) {
-        Err(bad) => Answer::Refused(refusals::BAD_PROGRAM, bad.place),
+        Err(bad) => Answer::Refused(Refusal::BadProgram, bad.place),
         Ok(good) => run_good(
             program, good.parties, good.nodes, counts, inputs, budget, bytes, lengths, work,
         ),

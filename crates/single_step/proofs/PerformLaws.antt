@@ -15,7 +15,9 @@ use Rattle.nodes.specs.declared.Node.{Node}
 use Rattle.records.specs.Events.{written}
 use Rattle.records.specs.declared.events.Event.{Event}
 use Rattle.records.specs.declared.events.Event.TheVariants.{Wrote}
-use Rattle.refusals.specs.Numbers.{wrong_value, no_room}
+use Rattle.refusals.specs.Numbers.{no_room}
+use Rattle.refusals.specs.declared.Refusal.{Refusal}
+use Rattle.refusals.specs.declared.Refusal.TheVariants.{WrongValue}
 use Rattle.rules.specs.Books.{Book, Books, handed, event_of, event_for, room_for, add, note}
 use Rattle.rules.specs.Moves.{move}
 use Rattle.rules.specs.Rules.{rule}
@@ -88,11 +90,11 @@ meeting_free mt i = all_keep (event_of mt i) (λ P b. none_taken P mt i b)
 -- ---- what each effect but a move and a READ comes to
 
 module _ (is : List ℤ) (end at : List ℕ) (m : PartySet) where
-  pub refuses : (r : ℕ) → EntryOf is end (Refuse r) m (Stops r) at at
+  pub refuses : (r : Refusal) → EntryOf is end (Refuse r) m (Stops r) at at
   unfolding perform
   refuses r = record { comes = λ S k c b q h. refl; inputs = λ b h. h }
 
-  pub empty_handed : (mt : Meeting) → EntryOf is end (Meets mt Empty) m (Stops wrong_value) at at
+  pub empty_handed : (mt : Meeting) → EntryOf is end (Meets mt Empty) m (Stops WrongValue) at at
   unfolding perform
   empty_handed mt = record { comes = λ S k c b q h. refl; inputs = λ b h. h }
 

@@ -15,7 +15,7 @@ use Rattle.parties.specs.SetLaws.{sole_member, lowest_one}
 use Rattle.parties.specs.declared.sets.PartySet.{PartySet}
 use Rattle.values.specs.declared.value.Value.TheVariants.{Clear}
 use Rattle.records.specs.declared.events.Event.TheVariants.{Read}
-use Rattle.refusals.specs.Numbers.{no_input}
+use Rattle.refusals.specs.declared.Refusal.TheVariants.{NoInput}
 use Rattle.rules.specs.Books.{Books, event_for, add, note}
 use Rattle.rules.specs.Single.{note_all, read_all, perform}
 use Rattle.rules.specs.declared.effects.Effect.TheVariants.{Reads}
@@ -55,7 +55,7 @@ module _ (is : List ℤ) (end at : List ℕ) (m : PartySet) (one : count m ≡ 1
   unfolding to_read
   held_inputs b h = rw reader (h (lowest m) (lowest_one m one).1)
 
-  pub read_none : head_of (take (get_or end P 0 - get_or at P 0) (drop (get_or at P 0) is)) ≡ None → EntryOf is end Reads m (Stops no_input) at at
+  pub read_none : head_of (take (get_or end P 0 - get_or at P 0) (drop (get_or at P 0) is)) ≡ None → EntryOf is end Reads m (Stops NoInput) at at
   unfolding to_read perform read_all
   read_none e = record { comes = λ S k c b q h. rw (q, held_inputs b h ∙ head_none to_read e); inputs = λ b h. h }
 

@@ -12,7 +12,9 @@ use Rattle.values.specs.declared.value.Value.{Value}
 use Rattle.program.specs.Check.{Program}
 use Rattle.records.specs.Events.{finished, has_room}
 use Rattle.records.specs.declared.events.Event.{Event}
-use Rattle.refusals.specs.Numbers.{no_room, too_deep}
+use Rattle.refusals.specs.Numbers.{no_room}
+use Rattle.refusals.specs.declared.Refusal.{Refusal}
+use Rattle.refusals.specs.declared.Refusal.TheVariants.{NoRoom, TooDeep}
 use Rattle.rules.specs.Books.{Books, used, event_for, room_for, add}
 use Rattle.rules.specs.Moves.{move}
 use Rattle.rules.specs.Moves as Moves
@@ -45,7 +47,7 @@ module _ (room n : ℕ) (xs ls : List ℕ) where
         deep = λ d. tt;
       }
 
-  pub arrives_full : Arrives room n Next'.Full (Stopped too_deep) xs ls xs ls
+  pub arrives_full : Arrives room n Next'.Full (Stopped TooDeep) xs ls xs ls
   unfolding arrive next_of
   arrives_full = record { comes = λ G k e b work at st. (b, refl, st.holds); deep = λ d. tt }
 
@@ -78,7 +80,7 @@ rooms_are R n m ev b xs₀ ls₀ xs ls h holds =
     (λ P l. ap (λ (u : ℕ). has_room R u (event_for P ev)) (sym (holds_length R n b b xs₀ ls₀ xs ls holds P l h)))
 
 module _ (room n : ℕ) (t : Stand) (xs ls w : List ℕ) where
-  pub settled_refusal : (r : ℕ) → Settles room n (Stops r) t (Stopped r) xs ls w xs ls w
+  pub settled_refusal : (r : Refusal) → Settles room n (Stops r) t (Stopped r) xs ls w xs ls w
   unfolding control_of
   settled_refusal r = record { comes = λ G p q k b at at' st ins. (b, refl, st.holds); table = refl; deep = tt }
 
@@ -106,7 +108,7 @@ module _ (room n : ℕ) (ev : Event) (v : Value) (t : Stand) (xs ls w : List ℕ
       }
 
   -- a member lacks room: nobody notes it, and the run stops
-  pub settled_not : rooms_for room n t.mode ev ls ≡ false → Settles room n (Notes ev v) t (Stopped no_room) xs ls w xs ls w
+  pub settled_not : rooms_for room n t.mode ev ls ≡ false → Settles room n (Notes ev v) t (Stopped NoRoom) xs ls w xs ls w
   settled_not r =
       record {
         comes = λ G p q k b at at' st ins. (b, settles_all p q k b G.bytes₀ G.lengths₀ st.holds G.places false r, st.holds);

@@ -5,6 +5,7 @@ use Rattle.limits.specs.Limits.{max_parties, max_frames}
 use Rattle.parties.specs.declared.sets.PartySet.{PartySet}
 use Rattle.values.specs.declared.value.Value.{Value}
 use Rattle.program.specs.Check.{Program, good, checked}
+use Rattle.refusals.specs.Numbers.{number_of}
 use Rattle.rules.specs.Books.{Books}
 use Rattle.rules.specs.Moves.{Control, move}
 use Rattle.rules.specs.Single.{Setting, Single, going, ended, stopped, note_all, arrive, settle_all, perform, step}
@@ -53,7 +54,7 @@ pub record Stands {room n : ℕ} (G : Given room n) (b : Books) (l : Lists) : Ty
 abbrev pub Comes : Stepped → {room n : ℕ} → Given room n → (k e : ℕ) → Single → Lists → Type 0
 Comes (On t) {room} {n} G k e s l = (b : Books) × (s ≡ going (k + 1) (control_of t l.work) b) × Stands G b l
 Comes Ended {room} {n} G k e s l = (v : Value) × (b : Books) × (s ≡ ended (k + 1) v b) × Holds room n b G.bytes₀ G.lengths₀ l.bytes l.lengths
-Comes (Stopped r) {room} {n} G k e s l = (b : Books) × (s ≡ stopped k r e b) × Holds room n b G.bytes₀ G.lengths₀ l.bytes l.lengths
+Comes (Stopped r) {room} {n} G k e s l = (b : Books) × (s ≡ stopped k (number_of r) e b) × Holds room n b G.bytes₀ G.lengths₀ l.bytes l.lengths
 
 -- no more frames are down than there are levels for
 abbrev pub DeepAfter : Stepped → Type 0
@@ -78,7 +79,7 @@ pub record Moved (room n : ℕ) (mv : Move) (t : Stand) (y : Stepped) (bytes len
 
 -- what an entry comes to: the run stops, or each member notes the event and the value is handed back
 abbrev pub enter : Setting → ℕ → Control → Books → Entry → Single
-enter S k c b (Stops refusal) = stopped k refusal c.node b
+enter S k c b (Stops refusal) = stopped k (number_of refusal) c.node b
 enter S k c b (Notes ev v) = settle_all S k c b (some ev) (Hand v)
 
 -- the books once an entry is made

@@ -14,6 +14,7 @@ use advance::strides::far;
 use area::stand::{Next, Stand};
 use parties::sets::PartySet;
 use records::events::Event;
+use refusals::Refusal;
 use rules::effects::{Effect, Move, Offer, View};
 use values::value::Value;
 
@@ -21,15 +22,13 @@ use values::value::Value;
 pub enum Stepped {
     On(Stand),
     Ended,
-    // the refusal
-    Stopped(u8),
+    Stopped(Refusal),
 }
 
 // What an effect comes to.
 #[derive(Clone, Copy)]
 enum Entry {
-    // the refusal
-    Stops(u8),
+    Stops(Refusal),
     // what each member of the mode notes, and what is handed back
     Notes(Event, Value),
 }
@@ -45,7 +44,7 @@ fn arrive(next: Next, n: u8, room: usize, bytes: &mut [u8], lengths: &mut [usize
             ledger::entries::finish_all(v, n, room, bytes, lengths);
             Stepped::Ended
         }
-        Next::Full => Stepped::Stopped(refusals::TOO_DEEP),
+        Next::Full => Stepped::Stopped(Refusal::TooDeep),
     }
 }
 
@@ -87,7 +86,7 @@ fn settled(
                 ledger::entries::note_all(ev, m, n, room, bytes, lengths);
                 return hand_back(v, t, n, room, bytes, lengths, work);
             }
-            Stepped::Stopped(refusals::NO_ROOM)
+            Stepped::Stopped(Refusal::NoRoom)
         }
     }
 }
@@ -99,7 +98,7 @@ fn read(m: PartySet, inputs: &[i32], at: &mut [usize], end: &[usize]) -> Entry
 {
     let p = m.lowest() as usize;
     let Some(i) = inputs::next_input(p, inputs, at, end) else {
-        return Entry::Stops(refusals::NO_INPUT);
+        return Entry::Stops(Refusal::NoInput);
     };
     at[p] = at[p] + 1;
     Entry::Notes(Event::Read(i), Value::Clear(i, m))
@@ -112,11 +111,11 @@ fn entry_of(effect: Effect, m: PartySet, inputs: &[i32], at: &mut [usize], end: 
 {
     match effect {
         Effect::Refuse(refusal) => Entry::Stops(refusal),
-        Effect::Goes(_) => Entry::Stops(0),
+        Effect::Goes(_) => unreachable!(),
         Effect::Reads => read(m, inputs, at, end),
         Effect::Writes(i) => Entry::Notes(Event::Wrote(i), Value::Clear(0, m)),
         Effect::Meets(mt, offer) => match offer {
-            Offer::Empty => Entry::Stops(refusals::WRONG_VALUE),
+            Offer::Empty => Entry::Stops(Refusal::WrongValue),
             Offer::Secret(i, _) => Entry::Notes(
                 judge::meetings::event_of(mt, i),
                 judge::meetings::handed(mt, i),

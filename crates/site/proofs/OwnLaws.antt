@@ -16,7 +16,7 @@ use Rattle.nodes.specs.declared.Node.{Node}
 use Rattle.nodes.specs.declared.JointNode.{JointNode}
 use Rattle.nodes.specs.declared.JointNode.TheVariants.{SHARE as SHARE', REVEAL as REVEAL', Neither}
 use Rattle.records.specs.Events.{has_room}
-use Rattle.refusals.specs.Numbers.{no_room}
+use Rattle.refusals.specs.declared.Refusal.TheVariants.{NoRoom}
 use Rattle.rules.specs.Books.{Book, used, event_of, event_for, room_for}
 use Rattle.rules.specs.Moves.{Control}
 use Rattle.rules.specs.Names.{Names}
@@ -93,7 +93,7 @@ module _ (P : ℕ) (effect : Effect) (room u : ℕ) where
     unfolding perform_own
     weighs_attends h = record { comes = λ p c b q. rw (meets, room_of b q, h); alone = tt; asked = λ k. tt }
 
-    pub weighs_lacks : has ≡ false → Weighs P effect room u (Acts (Refuse no_room))
+    pub weighs_lacks : has ≡ false → Weighs P effect room u (Acts (Refuse NoRoom))
     unfolding perform_own acted
     weighs_lacks h = record { comes = λ p c b q. rw (meets, room_of b q, h); alone = tt; asked = λ k. tt }
 
@@ -160,5 +160,5 @@ module _ (P : Party) (t : Stand) (room u : ℕ) (w : List ℕ) where
         invites_lacks h =
             record {
               comes = λ p same b q.
-                  (_, owned (Meets i.meeting i.offer) (Acts (Refuse no_room)) p b (sym (meets_at p same)) (weighs_lacks P.index (Meets i.meeting i.offer) room u i.meeting i.offer refl has room-is h) q);
+                  (_, owned (Meets i.meeting i.offer) (Acts (Refuse NoRoom)) p b (sym (meets_at p same)) (weighs_lacks P.index (Meets i.meeting i.offer) room u i.meeting i.offer refl has room-is h) q);
             }

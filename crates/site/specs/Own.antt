@@ -11,6 +11,7 @@ use Rattle.rules.specs.Books.{Book, used}
 use Rattle.rules.specs.Moves.{Control}
 use Rattle.rules.specs.Single.{Setting}
 use Rattle.rules.specs.Joint as Joint
+use Rattle.refusals.specs.Numbers.{number_of}
 use Rattle.rules.specs.Joint.{Site, running, stop, settle, read_own, perform_own, own, acts, attends}
 use Rattle.rules.specs.declared.effects.Move.TheVariants.{Hand}
 use Rattle.rules.specs.declared.effects.Effect.{Effect}
@@ -25,7 +26,7 @@ use Rattle.site.specs.declared.own.Invitation.{Invitation}
 
 -- the site after an effect that it does by itself
 unfoldable pub acted : Setting → ℕ → Control → Book → Effect → Site
-acted S P c b (Refuse refusal) = stop refusal c.node b
+acted S P c b (Refuse refusal) = stop (number_of refusal) c.node b
 acted S P c b (Goes mv) = settle S P c b none mv
 acted S P c b Reads = read_own S P c b b.inputs
 acted S P c b (Writes i) = settle S P c b (some (Wrote i)) (Hand (Clear (pos 0) c.mode))

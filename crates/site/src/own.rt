@@ -11,6 +11,7 @@ ghost use Rattle.site.specs.Own.{Weighs, Owns, meeting_of, Invites};
 use area::stand::Stand;
 use limits::Party;
 use nodes::JointNode;
+use refusals::Refusal;
 use rules::effects::{Effect, Meeting, Offer, View};
 
 #[derive(Clone, Copy)]
@@ -37,7 +38,7 @@ fn weighed(effect: Effect, p: Party, room: usize, used: usize) -> Own
     if room_for(p, mt, room, used) {
         return Own::Attends(mt, offer);
     }
-    Own::Acts(Effect::Refuse(refusals::NO_ROOM))
+    Own::Acts(Effect::Refuse(Refusal::NoRoom))
 }
 
 // What site p, which stands at t, is to do at a joint node.

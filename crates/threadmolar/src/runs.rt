@@ -12,10 +12,10 @@ fn tell_single(answer: single::runs::Answer, steps: &mut u32) -> u32
     ensures { SingleTold (told_single answer) result steps.old steps.new }
 {
     match answer {
-        single::runs::Answer::Refused(number, place) => numbered(number, place as u16),
-        single::runs::Answer::Stopped(number, node, taken) => {
+        single::runs::Answer::Refused(refusal, place) => numbered(refusal, place as u16),
+        single::runs::Answer::Stopped(refusal, node, taken) => {
             *steps = taken;
-            numbered(number, node)
+            numbered(refusal, node)
         }
         single::runs::Answer::Ended(taken) => {
             *steps = taken;
@@ -51,7 +51,7 @@ fn tell_joint(answer: joint::runs::Answer, taken: &mut u32) -> u32
     ensures { JointTold (told_joint answer) result taken.old taken.new }
 {
     match answer {
-        joint::runs::Answer::Refused(number, place) => numbered(number, place as u16),
+        joint::runs::Answer::Refused(refusal, place) => numbered(refusal, place as u16),
         joint::runs::Answer::Complete(turns) => {
             *taken = turns;
             COMPLETE

@@ -5,6 +5,7 @@ ghost use Rattle.threadmolar.specs.Walks.{fields_of, Walks};
 
 use crate::answers::{END, EVENT};
 use records::events::Event;
+use refusals::Refusal;
 use walk::{Cursor, Step};
 
 // An event's kind and what stands in its body; 0 for what its kind does not have.
@@ -78,6 +79,6 @@ pub extern "C" fn threadmolar_walk(
             EVENT
         }
         Step::End => END,
-        Step::Bad(_) => refusals::NOT_AN_EVENT as u32,
+        Step::Bad(_) => Refusal::NotAnEvent as u32,
     }
 }

@@ -14,9 +14,6 @@ returns-in-Refuse c =
     let a = c.args in
     rw c.in-Refuse.is (refuses a.inputs.now a.end.now a.at.now a.m _)
 
-pub returns-in-Goes : goal.returns-in-Goes
-returns-in-Goes c = absurd (rw c.in-Goes.is at c.requires.3)
-
 pub returns-in-Reads : goal.returns-in-Reads
 returns-in-Reads c = rw c.in-Reads.is c.read.ensures
 

@@ -13,7 +13,7 @@ put_counted-requires-in-Open c = (rw c.in-Open.is at c.requires.0, omega arith, 
 
 pub returns-in-Refused : goal.returns-in-Refused
 unfolding joint_lines after_joint ascii
-returns-in-Refused c = rw c.in-Refused.is c.put_two.ensures
+returns-in-Refused c = rw c.in-Refused.is (rw c.from.ensures at c.put_two.ensures)
 
 pub returns-in-Complete : goal.returns-in-Complete
 unfolding joint_lines after_joint ascii

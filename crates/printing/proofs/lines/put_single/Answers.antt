@@ -18,11 +18,11 @@ put_counted-requires-in-Budget c = (rw c.in-Budget.is at c.requires.0, omega ari
 
 pub returns-in-Refused : goal.returns-in-Refused
 unfolding single_lines after_single ascii
-returns-in-Refused c = rw c.in-Refused.is c.put_two.ensures
+returns-in-Refused c = rw c.in-Refused.is (rw c.from.ensures at c.put_two.ensures)
 
 pub returns-in-Stopped : goal.returns-in-Stopped
 unfolding single_lines after_single ascii
-returns-in-Stopped c = rw (c.in-Stopped.is, ← lines_of) (puts_then c.put_two-end.ensures c.put_records.ensures)
+returns-in-Stopped c = rw (c.in-Stopped.is, ← lines_of) (puts_then (rw c.from-in-Stopped.ensures at c.put_two-end.ensures) c.put_records.ensures)
 
 pub returns-in-Ended : goal.returns-in-Ended
 unfolding single_lines after_single ascii
