@@ -24,6 +24,7 @@ use Rattle.refusals.specs.Numbers.{name_unbound, too_deep, disagreement}
 use Rattle.rules.specs.CallLaws.{RefusalNumber}
 use Rattle.rules.specs.Calls.{single_call, joint_call, SingleAnswer, stopped_at, ended_after, budget_used, JointAnswer, complete, still_open}
 use Rattle.single.specs.Runs as Single
+use Rattle.refusals.specs.declared.Refused.{Refused}
 use Rattle.single.specs.declared.runs.Answer as Single'
 use Rattle.joint.specs.Runs as Joint
 use Rattle.joint.specs.declared.runs.Answer as Joint'
@@ -75,12 +76,12 @@ pub record Demand1 : Type 0 where
   pub order : (xs ys : List ℕ) (r r' : Order) → r ≡ order_of xs ys → r' ≡ order_of xs ys → r ≡ r'
   pub continuation : (a b r r' : Bor (List ℕ)) → Continues a b r → Continues a b r' → (r.now ≡ r'.now) × (r.ref_ptr ≡ r'.ref_ptr)
   -- single::runs::run
-  pub single : (L : Lent) (budget : ℕ) (a a' : Single'.Answer) (rs rs' ls ls' w w' : List ℕ)
+  pub single : (L : Lent) (budget : ℕ) (a a' : Result Single'.Answer Refused) (rs rs' ls ls' w w' : List ℕ)
       → Single.Is (single_call L budget) a rs ls w → Single.Is (single_call L budget) a' rs' ls' w'
       → (a ≡ a') × (rs ≡ rs') × (ls ≡ ls') × (w ≡ w')
   pub single_refused : (L : Lent) (budget : ℕ) → (IsSingleRun (single_call L budget).answer → ⊥) → Untouched L (single_call L budget)
   -- joint::runs::run
-  pub joint : (L : Lent) (ts : List ℕ) (a a' : Joint'.Answer) (rs rs' ls ls' w w' : List ℕ)
+  pub joint : (L : Lent) (ts : List ℕ) (a a' : Result Joint'.Answer Refused) (rs rs' ls ls' w w' : List ℕ)
       → Joint.Is (joint_call L ts) a rs ls w → Joint.Is (joint_call L ts) a' rs' ls' w'
       → (a ≡ a') × (rs ≡ rs') × (ls ≡ ls') × (w ≡ w')
   pub joint_refused : (L : Lent) (ts : List ℕ) → (IsJointRun (joint_call L ts).answer → ⊥) → Untouched L (joint_call L ts)

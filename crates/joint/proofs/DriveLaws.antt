@@ -25,6 +25,7 @@ use Rattle.meets.specs.Places.{setting_of, Given, Stands, InputsStand}
 use Rattle.ends.specs.Ends.{OpensAll}
 use Rattle.ends.specs.Ends as Ends
 use Rattle.joint.specs.Runs.{told, RunsTurns, Drives}
+use Rattle.std.specs.Prelude.{Ok}
 use Rattle.joint.specs.declared.runs.Answer.{Answer}
 use Rattle.joint.specs.declared.runs.Answer.TheVariants.{Complete, Open}
 
@@ -58,7 +59,7 @@ start_inputs S L counts is n at end ec ei d =
 module _ (bs : List ℕ) (n nodes room : ℕ) (counts : List ℕ) (is : List ℤ) (ts : List ℕ) (k : ℕ) (r : Bool) (xs ls xs' ls' at end ls₁ w₁ w' : List ℕ) (mode : PartySet)
     (few : nodes ≤ max_nodes) (long : n * room ≤ length xs) (places : n ≤ length ls) (d : Divided counts (replicate max_parties 0) (replicate max_parties 0) at end) (e : ls₁ ≡ none_used n ls) (em : mode ≡ all n)
     (o : OpensAll bs nodes (record { node = nodes - 1; mode = mode; depth = record { frames = 0 } }) n w₁) (t : RunsTurns bs nodes ts n room is end k at xs ls₁ w₁ xs' ls' w') (f : Ends.Finishes n r w') where
-  drives_by : (a : Answer) → told a ≡ cond r (complete k) (still_open k) → Drives bs n nodes room counts is ts a xs ls xs' ls'
+  drives_by : (a : Answer) → told (Ok a) ≡ cond r (complete k) (still_open k) → Drives bs n nodes room counts is ts a xs ls xs' ls'
   drives_by a ea =
       record {
         comes = λ p L g q len ec ei hb.

@@ -1,5 +1,5 @@
 -- The joint run in the lent bytes, and what its answers say.
-use Rattle.std.specs.Prelude.{◌≡◌, ℕ, ◌≤◌, ◌<◌, cond, List, ℤ, length, get_or}
+use Rattle.std.specs.Prelude.{◌≡◌, ℕ, ◌≤◌, ◌<◌, cond, List, ℤ, length, get_or, Result, Ok, Err}
 use Rattle.program.specs.Check.{Program, good, checked}
 use Rattle.refusals.specs.Numbers.{number_of}
 use Rattle.records.specs.Events.{held_back}
@@ -9,14 +9,15 @@ use Rattle.rules.specs.Lent.{Lent, Left, inputs_of}
 use Rattle.rules.specs.Calls.{JointAnswer, refused, complete, still_open}
 use Rattle.ledger.specs.Ledger.{Holds}
 use Rattle.meets.specs.Places.{setting_of, Given, Stands, InputsStand}
+use Rattle.refusals.specs.declared.Refused.{Refused}
 use Rattle.joint.specs.declared.runs.Answer.{Answer}
 use Rattle.joint.specs.declared.runs.Answer.TheVariants as Answer'
 
 -- what the code's answer says, in document 01's numbers
-abbrev pub told : Answer → JointAnswer
-told (Answer'.Refused refusal place) = refused (number_of refusal) place
-told (Answer'.Complete turns) = complete turns
-told (Answer'.Open turns) = still_open turns
+abbrev pub told : Result Answer Refused → JointAnswer
+told (Err e) = refused (number_of e.refusal) e.place
+told (Ok (Answer'.Complete turns)) = complete turns
+told (Ok (Answer'.Open turns)) = still_open turns
 
 -- each turn is of a party below n
 abbrev pub AllBelow : ℕ → List ℕ → Type 0
@@ -29,7 +30,7 @@ pub record RunsTurns (bs : List ℕ) (nodes : ℕ) (ts : List ℕ) (n room : ℕ
 
 -- an answer a after some turns, with the books of n sites in the bytes and the lengths
 pub record Finishes (a : Answer) (R n : ℕ) (t : Turned) (xs₀ ls₀ xs ls : List ℕ) : Type 0 where
-  pub answer : told a ≡ cond (all_finished n t.sites) (complete t.count) (still_open t.count)
+  pub answer : told (Ok a) ≡ cond (all_finished n t.sites) (complete t.count) (still_open t.count)
   pub holds : Holds R n (λ P. book_of (t.sites P)) xs₀ ls₀ xs ls
 
 -- the run of a good program, from its start
@@ -38,5 +39,5 @@ pub record Drives (bs : List ℕ) (n nodes room : ℕ) (counts : List ℕ) (is :
       → Finishes a room n (run_turns (setting_of p room) ts (start_all (setting_of p room) (inputs_of L))) xs ls xs' ls'
 
 -- everything that a call leaves
-abbrev pub Is : Left JointAnswer → Answer → (rs ls w : List ℕ) → Type 0
+abbrev pub Is : Left JointAnswer → Result Answer Refused → (rs ls w : List ℕ) → Type 0
 Is left a rs ls w = Lent.Is left (told a) rs ls w

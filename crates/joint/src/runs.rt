@@ -15,12 +15,10 @@ use inputs::counts_fit;
 use limits::Depth;
 use parties::sets::PartySet;
 use records::events::Event;
-use refusals::Refusal;
+use refusals::{Refusal, Refused};
 
 #[derive(Clone, Copy)]
 pub enum Answer {
-    // the refusal, and its place
-    Refused(Refusal, usize),
     // the turns at which a site stepped or stopped
     Complete(u32),
     Open(u32),
@@ -121,26 +119,26 @@ fn run_lent(
     bytes: &mut [u8],
     lengths: &mut [usize],
     work: &mut [u8],
-) -> Answer
+) -> Result<Answer, Refused>
     requires { (check_answer program.now ≡ accepted n nodes) × (length counts.now ≡ n) × (sum counts.now ≡ length inputs.now) × (bad_turn_from n 0 turns.now ≡ none) }
     ensures { Is (joint_call (record { program = program.now; counts = counts.now; inputs = inputs.now; records = bytes.old; lengths = lengths.old; work = work.old }) turns.now) result bytes.new lengths.new work.new }
 {
     let parties = n as usize;
     let room = bytes.len() / parties;
     if room < Event::MAX {
-        return Answer::Refused(Refusal::TooLittleLent, 0);
+        return Err(Refusal::TooLittleLent.at(0));
     }
     if lengths.len() < parties {
-        return Answer::Refused(Refusal::TooLittleLent, 0);
+        return Err(Refusal::TooLittleLent.at(0));
     }
     if work.len() < parties * AREA {
-        return Answer::Refused(Refusal::TooLittleLent, 0);
+        return Err(Refusal::TooLittleLent.at(0));
     }
     let answer = drive(
         program, n, nodes, room, counts, inputs, turns, bytes, lengths, work,
     );
     stretches::zero(work);
-    answer
+    Ok(answer)
 }
 
 // A good program's call: refusals 2 and 3, or what follows them.
@@ -154,15 +152,15 @@ fn run_good(
     bytes: &mut [u8],
     lengths: &mut [usize],
     work: &mut [u8],
-) -> Answer
+) -> Result<Answer, Refused>
     requires { check_answer program.now ≡ accepted n nodes }
     ensures { Is (joint_call (record { program = program.now; counts = counts.now; inputs = inputs.now; records = bytes.old; lengths = lengths.old; work = work.old }) turns.now) result bytes.new lengths.new work.new }
 {
     if !counts_fit(counts, n, inputs.len()) {
-        return Answer::Refused(Refusal::BadCounts, 0);
+        return Err(Refusal::BadCounts.at(0));
     }
     if let Some(index) = ends::bad_turn(turns, n) {
-        return Answer::Refused(Refusal::BadTurn, index);
+        return Err(Refusal::BadTurn.at(index));
     }
     run_lent(
         program, n, nodes, counts, inputs, turns, bytes, lengths, work,
@@ -178,13 +176,11 @@ pub fn run(
     bytes: &mut [u8],
     lengths: &mut [usize],
     work: &mut [u8],
-) -> Answer
+) -> Result<Answer, Refused>
     ensures { Is (joint_call (record { program = program.now; counts = counts.now; inputs = inputs.now; records = bytes.old; lengths = lengths.old; work = work.old }) turns.now) result bytes.new lengths.new work.new }
 {
-    match program::check::check(program) {
-        Err(bad) => Answer::Refused(Refusal::BadProgram, bad.place),
-        Ok(good) => run_good(
-            program, good.parties, good.nodes, counts, inputs, turns, bytes, lengths, work,
-        ),
-    }
+    let good = program::check::check(program)?;
+    run_good(
+        program, good.parties, good.nodes, counts, inputs, turns, bytes, lengths, work,
+    )
 }

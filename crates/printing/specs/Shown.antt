@@ -1,6 +1,7 @@
 -- What the lines are put from: an answer of the code, the records and the lengths; and how much they may be. Assumes nothing.
-use Rattle.std.specs.Prelude.{ℕ, ◌+◌, ◌*◌, ◌/◌, ◌≤◌, ◌<◌, List, [], length, get_or}
+use Rattle.std.specs.Prelude.{ℕ, ◌+◌, ◌*◌, ◌/◌, ◌≤◌, ◌<◌, List, [], length, get_or, Result, Ok, Err}
 use Rattle.limits.specs.Limits.{max_parties}
+use Rattle.refusals.specs.declared.Refused.{Refused}
 use Rattle.rules.specs.Lent.{Left}
 use Rattle.rules.specs.Calls.{SingleAnswer, JointAnswer}
 use Rattle.single.specs.Runs as SingleRuns
@@ -16,10 +17,10 @@ shown a records lengths = record { answer = a; records = records; lengths = leng
 abbrev pub unanswered : (records lengths : List ℕ) → Left Unit
 unanswered = shown tt
 
-abbrev pub single_shown : SingleAnswers.Answer → (records lengths : List ℕ) → Left SingleAnswer
+abbrev pub single_shown : Result SingleAnswers.Answer Refused → (records lengths : List ℕ) → Left SingleAnswer
 single_shown a = shown (SingleRuns.told a)
 
-abbrev pub joint_shown : JointAnswers.Answer → (records lengths : List ℕ) → Left JointAnswer
+abbrev pub joint_shown : Result JointAnswers.Answer Refused → (records lengths : List ℕ) → Left JointAnswer
 joint_shown a = shown (JointRuns.told a)
 
 -- ---- how much there may be
@@ -36,16 +37,16 @@ pub record Fit (n : ℕ) (records lengths : List ℕ) : Type 0 where
   pub small : length records ≤ max_records
 
 -- after `refused` no record is shown
-abbrev pub single_fits : SingleAnswers.Answer → (n : ℕ) → (records lengths : List ℕ) → Type 0
-single_fits (SingleAnswers.TheVariants.Refused refusal place) n records lengths = Unit
-single_fits (SingleAnswers.TheVariants.Stopped refusal node steps) n records lengths = Fit n records lengths
-single_fits (SingleAnswers.TheVariants.Ended steps) n records lengths = Fit n records lengths
-single_fits (SingleAnswers.TheVariants.Budget steps) n records lengths = Fit n records lengths
+abbrev pub single_fits : Result SingleAnswers.Answer Refused → (n : ℕ) → (records lengths : List ℕ) → Type 0
+single_fits (Err e) n records lengths = Unit
+single_fits (Ok (SingleAnswers.TheVariants.Stopped refusal node steps)) n records lengths = Fit n records lengths
+single_fits (Ok (SingleAnswers.TheVariants.Ended steps)) n records lengths = Fit n records lengths
+single_fits (Ok (SingleAnswers.TheVariants.Budget steps)) n records lengths = Fit n records lengths
 
-abbrev pub joint_fits : JointAnswers.Answer → (n : ℕ) → (records lengths : List ℕ) → Type 0
-joint_fits (JointAnswers.TheVariants.Refused refusal place) n records lengths = Unit
-joint_fits (JointAnswers.TheVariants.Complete turns) n records lengths = Fit n records lengths
-joint_fits (JointAnswers.TheVariants.Open turns) n records lengths = Fit n records lengths
+abbrev pub joint_fits : Result JointAnswers.Answer Refused → (n : ℕ) → (records lengths : List ℕ) → Type 0
+joint_fits (Err e) n records lengths = Unit
+joint_fits (Ok (JointAnswers.TheVariants.Complete turns)) n records lengths = Fit n records lengths
+joint_fits (Ok (JointAnswers.TheVariants.Open turns)) n records lengths = Fit n records lengths
 
 -- ---- how long the lines may be
 

@@ -4,6 +4,8 @@ ghost use Rattle.text.specs.Text.{Puts};
 ghost use Rattle.printing.specs.Lines.{one_number, two_numbers, party_line, record_lines, single_lines, joint_lines};
 ghost use Rattle.printing.specs.Shown.{Fit, most_of_party, most_of_records, most_of_one, unanswered, single_fits, single_shown, joint_fits, joint_shown};
 
+use refusals::Refused;
+
 // A line of a word and a number.
 fn put_one(word: &[u8], x: u64, out: &mut [u8], at: usize) -> usize
     requires { at + (length word.now + 21) ≤ length out.old }
@@ -68,7 +70,7 @@ fn put_counted(
 
 // What the single run leaves.
 pub fn put_single(
-    answer: single::runs::Answer,
+    answer: Result<single::runs::Answer, Refused>,
     n: u8,
     records: &[u8],
     lengths: &[usize],
@@ -79,18 +81,18 @@ pub fn put_single(
     ensures { Puts (single_lines n (single_shown answer records.now lengths.now)) at result out.old out.new }
 {
     match answer {
-        single::runs::Answer::Refused(refusal, place) => put_two(
+        Err(refused) => put_two(
             b"single refused ",
-            u8::from(refusal) as u64,
-            place as u64,
+            u8::from(refused.refusal) as u64,
+            refused.place as u64,
             out,
             at,
         ),
-        single::runs::Answer::Stopped(refusal, node, _) => {
+        Ok(single::runs::Answer::Stopped(refusal, node, _)) => {
             let end = put_two(b"single stopped ", u8::from(refusal) as u64, node as u64, out, at);
             put_records(n, records, lengths, out, end)
         }
-        single::runs::Answer::Ended(steps) => put_counted(
+        Ok(single::runs::Answer::Ended(steps)) => put_counted(
             b"single ended ",
             steps as u64,
             n,
@@ -99,7 +101,7 @@ pub fn put_single(
             out,
             at,
         ),
-        single::runs::Answer::Budget(steps) => put_counted(
+        Ok(single::runs::Answer::Budget(steps)) => put_counted(
             b"single budget ",
             steps as u64,
             n,
@@ -113,7 +115,7 @@ pub fn put_single(
 
 // What the joint run leaves.
 pub fn put_joint(
-    answer: joint::runs::Answer,
+    answer: Result<joint::runs::Answer, Refused>,
     n: u8,
     records: &[u8],
     lengths: &[usize],
@@ -124,14 +126,14 @@ pub fn put_joint(
     ensures { Puts (joint_lines n (joint_shown answer records.now lengths.now)) at result out.old out.new }
 {
     match answer {
-        joint::runs::Answer::Refused(refusal, place) => put_two(
+        Err(refused) => put_two(
             b"joint refused ",
-            u8::from(refusal) as u64,
-            place as u64,
+            u8::from(refused.refusal) as u64,
+            refused.place as u64,
             out,
             at,
         ),
-        joint::runs::Answer::Complete(turns) => put_counted(
+        Ok(joint::runs::Answer::Complete(turns)) => put_counted(
             b"joint complete ",
             turns as u64,
             n,
@@ -140,7 +142,7 @@ pub fn put_joint(
             out,
             at,
         ),
-        joint::runs::Answer::Open(turns) => put_counted(
+        Ok(joint::runs::Answer::Open(turns)) => put_counted(
             b"joint open ",
             turns as u64,
             n,

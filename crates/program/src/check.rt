@@ -8,6 +8,7 @@ ghost use Rattle.program.specs.Answer.{told, check_answer};
 use crate::fields::fields_fit;
 use limits::Party;
 use nodes::{Node, byte, half};
+use refusals::{Refusal, Refused};
 
 // How many parties and nodes a good program has.
 #[derive(Clone, Copy)]
@@ -20,6 +21,15 @@ pub struct Good {
 #[derive(Clone, Copy)]
 pub struct BadRecord {
     pub place: usize,
+}
+
+// A call with a bad program is refused there.
+impl From<BadRecord> for Refused {
+    ghost from_gives = { λ bad refused. refused ≡ record { refusal = Refusal.BadProgram; place = bad.place } };
+
+    fn from(bad: BadRecord) -> Refused {
+        Refusal::BadProgram.at(bad.place)
+    }
 }
 
 // What is found of a good record.

@@ -27,3 +27,21 @@ impl From<Refusal> for u8 {
         refusal as u8
     }
 }
+
+// A refused call: by which refusal, and at what place.
+#[derive(Clone, Copy, PartialEq, Eq, Debug)]
+pub struct Refused {
+    pub refusal: Refusal,
+    pub place: usize,
+}
+
+impl Refusal {
+    pub fn at(self, place: usize) -> Refused
+        ensures { result ≡ record { refusal = self; place = place } }
+    {
+        Refused {
+            refusal: self,
+            place,
+        }
+    }
+}

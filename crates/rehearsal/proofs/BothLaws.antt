@@ -2,7 +2,8 @@
 use mathlib.Core.Path.{◌≡◌, ◌∙◌}
 use Prim.Native.Nat.{ℕ, ◌*◌, ◌≤◌}
 use mathlib.Core.List.{List}
-use Rattle.std.specs.Prelude.{Some, None}
+use Rattle.std.specs.Prelude.{Some, None, Result}
+use Rattle.refusals.specs.declared.Refused.{Refused}
 use native.Mathlib.Omega.{arith}
 use lib.IntN.{ℤ}
 use lib.ListN.{length, length-replicate}
@@ -49,7 +50,7 @@ module _ (program counts : List ℕ) (inputs : List ℤ) {rs₀ ls₀ w₀ rs₁
   same_lengths : length ls ≡ length ls₁
   same_lengths = rw (f.lengths, length-replicate) p
 
-  module _ (budget : ℕ) (a : SingleAnswers.Answer) (i : SingleRuns.Is (single_call lent budget) a rs ls w) where
+  module _ (budget : ℕ) (a : Result SingleAnswers.Answer Refused) (i : SingleRuns.Is (single_call lent budget) a rs ls w) where
     pub single_can : single_fits a n rs ls
     single_can = rw e (single_call_fits lent rs ls same_records same_lengths few_records budget w a i)
 
@@ -60,7 +61,7 @@ module _ (program counts : List ℕ) (inputs : List ℤ) {rs₀ ls₀ w₀ rs₁
         (single_lines_lem n (single_call lent budget) a rs ls w i ∙ rw (e, ← lent_is))
         (single_short n a rs ls single_can) q
 
-  module _ (turns : List ℕ) (a : JointAnswers.Answer) (i : JointRuns.Is (joint_call lent turns) a rs ls w) where
+  module _ (turns : List ℕ) (a : Result JointAnswers.Answer Refused) (i : JointRuns.Is (joint_call lent turns) a rs ls w) where
     pub joint_can : joint_fits a n rs ls
     joint_can = rw e (joint_call_fits lent rs ls same_records same_lengths few_records turns w a i)
 

@@ -1,5 +1,5 @@
 -- The single run in the lent bytes, and what its answers say.
-use Rattle.std.specs.Prelude.{◌≡◌, ℕ, ◌≤◌, List, ℤ, length}
+use Rattle.std.specs.Prelude.{◌≡◌, ℕ, ◌≤◌, List, ℤ, length, Result, Ok, Err}
 use Rattle.values.specs.declared.value.Value.{Value}
 use Rattle.program.specs.Check.{Program, good, checked}
 use Rattle.refusals.specs.Numbers.{number_of}
@@ -15,19 +15,19 @@ use Rattle.table.specs.Table.{PlacesIn}
 use Rattle.area.specs.declared.stand.Stand.{Stand}
 use Rattle.ledger.specs.Ledger.{Holds}
 use Rattle.single_step.specs.Steps.{Lists, Given, Stands}
+use Rattle.refusals.specs.declared.Refused.{Refused}
 use Rattle.single.specs.declared.runs.Answer.{Answer}
 use Rattle.single.specs.declared.runs.Answer.TheVariants as Answer'
 
 -- what the code's answer says, in document 01's numbers
-abbrev pub told : Answer → SingleAnswer
-told (Answer'.Refused refusal place) = refused (number_of refusal) place
-told (Answer'.Stopped refusal node steps) = stopped_at (number_of refusal) node steps
-told (Answer'.Ended steps) = ended_after steps
-told (Answer'.Budget steps) = budget_used steps
+abbrev pub told : Result Answer Refused → SingleAnswer
+told (Err e) = refused (number_of e.refusal) e.place
+told (Ok (Answer'.Stopped refusal node steps)) = stopped_at (number_of refusal) node steps
+told (Ok (Answer'.Ended steps)) = ended_after steps
+told (Ok (Answer'.Budget steps)) = budget_used steps
 
 -- an answer a of a run that came to the state s, whose books the bytes and lengths hold
 abbrev pub Finishes : Answer → (R n : ℕ) → (xs₀ ls₀ : List ℕ) → Single → (xs ls : List ℕ) → Type 0
-Finishes (Answer'.Refused refusal place) R n xs₀ ls₀ s xs ls = ⊥
 Finishes (Answer'.Stopped r e k) R n xs₀ ls₀ s xs ls = (b : Books) × (s ≡ stopped k (number_of r) e b) × Holds R n b xs₀ ls₀ xs ls
 Finishes (Answer'.Ended k) R n xs₀ ls₀ s xs ls = (v : Value) × (b : Books) × (s ≡ ended k v b) × Holds R n b xs₀ ls₀ xs ls
 Finishes (Answer'.Budget k) R n xs₀ ls₀ s xs ls = (c : Control) × (b : Books) × (s ≡ going k c b) × Holds R n b xs₀ ls₀ xs ls
@@ -43,5 +43,5 @@ pub record Drives (bs : List ℕ) (n nodes room : ℕ) (counts : List ℕ) (is :
       → Finishes a room n xs ls (after (record { program = p; room = room }) (inputs_of L) budget) xs' ls'
 
 -- everything that a call leaves
-abbrev pub Is : Left SingleAnswer → Answer → (rs ls w : List ℕ) → Type 0
+abbrev pub Is : Left SingleAnswer → Result Answer Refused → (rs ls w : List ℕ) → Type 0
 Is left a rs ls w = Lent.Is left (told a) rs ls w

@@ -12,13 +12,11 @@ use inputs::counts_fit;
 use limits::Depth;
 use parties::sets::PartySet;
 use records::events::Event;
-use refusals::Refusal;
+use refusals::{Refusal, Refused};
 use single_step::Stepped;
 
 #[derive(Clone, Copy)]
 pub enum Answer {
-    // the refusal, and its place
-    Refused(Refusal, usize),
     // the refusal, the node, and the steps taken before
     Stopped(Refusal, u16, u32),
     // the steps
@@ -123,7 +121,7 @@ fn run_good(
     bytes: &mut [u8],
     lengths: &mut [usize],
     work: &mut [u8],
-) -> Answer
+) -> Result<Answer, Refused>
     requires { check_answer program.now ≡ accepted n nodes }
     ensures { Is (single_call (record { program = program.now; counts = counts.now; inputs = inputs.now; records = bytes.old; lengths = lengths.old; work = work.old }) budget) result bytes.new lengths.new work.new }
 {
@@ -131,13 +129,13 @@ fn run_good(
         let parties = n as usize;
         let room = bytes.len() / parties;
         if room < Event::MAX {
-            return Answer::Refused(Refusal::TooLittleLent, 0);
+            return Err(Refusal::TooLittleLent.at(0));
         }
         if lengths.len() < parties {
-            return Answer::Refused(Refusal::TooLittleLent, 0);
+            return Err(Refusal::TooLittleLent.at(0));
         }
         if work.len() < AREA {
-            return Answer::Refused(Refusal::TooLittleLent, 0);
+            return Err(Refusal::TooLittleLent.at(0));
         }
         let answer = drive(
             program,
@@ -152,9 +150,9 @@ fn run_good(
             &mut work[..ROW],
         );
         stretches::zero(work);
-        return answer;
+        return Ok(answer);
     }
-    Answer::Refused(Refusal::BadCounts, 0)
+    Err(Refusal::BadCounts.at(0))
 }
 
 // The single run of a program. `bytes` are the records, side by side. A refused call changes nothing that was lent.
@@ -166,13 +164,11 @@ pub fn run(
     bytes: &mut [u8],
     lengths: &mut [usize],
     work: &mut [u8],
-) -> Answer
+) -> Result<Answer, Refused>
     ensures { Is (single_call (record { program = program.now; counts = counts.now; inputs = inputs.now; records = bytes.old; lengths = lengths.old; work = work.old }) budget) result bytes.new lengths.new work.new }
 {
-    match program::check::check(program) {
-        Err(bad) => Answer::Refused(Refusal::BadProgram, bad.place),
-        Ok(good) => run_good(
-            program, good.parties, good.nodes, counts, inputs, budget, bytes, lengths, work,
-        ),
-    }
+    let good = program::check::check(program)?;
+    run_good(
+        program, good.parties, good.nodes, counts, inputs, budget, bytes, lengths, work,
+    )
 }

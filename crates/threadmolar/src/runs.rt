@@ -5,23 +5,24 @@ ghost use Rattle.joint.specs.Runs.{told as told_joint};
 ghost use Rattle.threadmolar.specs.Runs.{SingleFits, SingleTold, SingleRuns, JointFits, JointTold, JointRuns};
 
 use crate::answers::{BUDGET, COMPLETE, ENDED, OPEN, numbered};
+use refusals::Refused;
 
 // The number of the single run's answer, with the steps put in their place.
-fn tell_single(answer: single::runs::Answer, steps: &mut u32) -> u32
+fn tell_single(answer: Result<single::runs::Answer, Refused>, steps: &mut u32) -> u32
     requires { SingleFits (told_single answer) }
     ensures { SingleTold (told_single answer) result steps.old steps.new }
 {
     match answer {
-        single::runs::Answer::Refused(refusal, place) => numbered(refusal, place as u16),
-        single::runs::Answer::Stopped(refusal, node, taken) => {
+        Err(refused) => numbered(refused.refusal, refused.place as u16),
+        Ok(single::runs::Answer::Stopped(refusal, node, taken)) => {
             *steps = taken;
             numbered(refusal, node)
         }
-        single::runs::Answer::Ended(taken) => {
+        Ok(single::runs::Answer::Ended(taken)) => {
             *steps = taken;
             ENDED
         }
-        single::runs::Answer::Budget(taken) => {
+        Ok(single::runs::Answer::Budget(taken)) => {
             *steps = taken;
             BUDGET
         }
@@ -46,17 +47,17 @@ pub extern "C" fn threadmolar_single(
 }
 
 // The number of the joint run's answer, with the turns taken put in their place.
-fn tell_joint(answer: joint::runs::Answer, taken: &mut u32) -> u32
+fn tell_joint(answer: Result<joint::runs::Answer, Refused>, taken: &mut u32) -> u32
     requires { JointFits (told_joint answer) }
     ensures { JointTold (told_joint answer) result taken.old taken.new }
 {
     match answer {
-        joint::runs::Answer::Refused(refusal, place) => numbered(refusal, place as u16),
-        joint::runs::Answer::Complete(turns) => {
+        Err(refused) => numbered(refused.refusal, refused.place as u16),
+        Ok(joint::runs::Answer::Complete(turns)) => {
             *taken = turns;
             COMPLETE
         }
-        joint::runs::Answer::Open(turns) => {
+        Ok(joint::runs::Answer::Open(turns)) => {
             *taken = turns;
             OPEN
         }

@@ -7,10 +7,10 @@ use Rattle.ledger.proofs.CallLaws.{lent, call_bad}
 use Rattle.joint.proofs.runs.run.Goals as goal
 
 pub run_good-requires : goal.run_good-requires
-run_good-requires c = sym c.check.ensures ∙ ap told c.in-Ok.is
+run_good-requires c = sym c.check.ensures ∙ ap told c.in_ok-good.was
 
-pub returns-in-Err : goal.returns-in-Err
+pub returns-in_err-good : goal.returns-in_err-good
 unfolding joint_call joint_of
-returns-in-Err c = let a = c.args in
+returns-in_err-good c = let a = c.args in
     let L : Lent = lent a.program.now a.counts.now a.inputs.now a.bytes.now a.lengths.now a.work.now in
-    call_bad (joint_of L a.turns.now) L _ (sym c.check.ensures ∙ ap told c.in-Err.is)
+    call_bad (joint_of L a.turns.now) L _ (sym c.check.ensures ∙ ap told c.in_err-good.was)

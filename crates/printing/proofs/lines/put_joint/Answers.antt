@@ -6,19 +6,19 @@ use Rattle.printing.proofs.AnswerLaws.{lines_of}
 use Rattle.printing.proofs.lines.put_joint.Goals as goal
 
 pub put_counted-requires : goal.put_counted-requires
-put_counted-requires c = (rw c.in-Complete.is at c.requires.0, omega arith, c.requires.1)
+put_counted-requires c = (rw c.in-Ok-Complete.is at c.requires.0, omega arith, c.requires.1)
 
-pub put_counted-requires-in-Open : goal.put_counted-requires-in-Open
-put_counted-requires-in-Open c = (rw c.in-Open.is at c.requires.0, omega arith, c.requires.1)
+pub put_counted-requires-in-Ok-Open : goal.put_counted-requires-in-Ok-Open
+put_counted-requires-in-Ok-Open c = (rw c.in-Ok-Open.is at c.requires.0, omega arith, c.requires.1)
 
-pub returns-in-Refused : goal.returns-in-Refused
+pub returns-in-Err : goal.returns-in-Err
 unfolding joint_lines after_joint ascii
-returns-in-Refused c = rw c.in-Refused.is (rw c.from.ensures at c.put_two.ensures)
+returns-in-Err c = rw c.in-Err.is (rw c.from.ensures at c.put_two.ensures)
 
-pub returns-in-Complete : goal.returns-in-Complete
+pub returns-in-Ok-Complete : goal.returns-in-Ok-Complete
 unfolding joint_lines after_joint ascii
-returns-in-Complete c = rw (c.in-Complete.is, ← lines_of) c.put_counted.ensures
+returns-in-Ok-Complete c = rw (c.in-Ok-Complete.is, ← lines_of) c.put_counted.ensures
 
-pub returns-in-Open : goal.returns-in-Open
+pub returns-in-Ok-Open : goal.returns-in-Ok-Open
 unfolding joint_lines after_joint ascii
-returns-in-Open c = rw (c.in-Open.is, ← lines_of) c.put_counted-in-Open.ensures
+returns-in-Ok-Open c = rw (c.in-Ok-Open.is, ← lines_of) c.put_counted-in-Ok-Open.ensures

@@ -8,26 +8,26 @@ use Rattle.printing.proofs.AnswerLaws.{room_after, lines_of}
 use Rattle.printing.proofs.lines.put_single.Goals as goal
 
 pub put_records-requires : goal.put_records-requires
-put_records-requires c = (rw c.in-Stopped.is at c.requires.0, room_after c.put_two-end.ensures (two_short _ _ _) c.requires.1)
+put_records-requires c = (rw c.in-Ok-Stopped.is at c.requires.0, room_after c.put_two-end.ensures (two_short _ _ _) c.requires.1)
 
 pub put_counted-requires : goal.put_counted-requires
-put_counted-requires c = (rw c.in-Ended.is at c.requires.0, omega arith, c.requires.1)
+put_counted-requires c = (rw c.in-Ok-Ended.is at c.requires.0, omega arith, c.requires.1)
 
-pub put_counted-requires-in-Budget : goal.put_counted-requires-in-Budget
-put_counted-requires-in-Budget c = (rw c.in-Budget.is at c.requires.0, omega arith, c.requires.1)
+pub put_counted-requires-in-Ok-Budget : goal.put_counted-requires-in-Ok-Budget
+put_counted-requires-in-Ok-Budget c = (rw c.in-Ok-Budget.is at c.requires.0, omega arith, c.requires.1)
 
-pub returns-in-Refused : goal.returns-in-Refused
+pub returns-in-Err : goal.returns-in-Err
 unfolding single_lines after_single ascii
-returns-in-Refused c = rw c.in-Refused.is (rw c.from.ensures at c.put_two.ensures)
+returns-in-Err c = rw c.in-Err.is (rw c.from.ensures at c.put_two.ensures)
 
-pub returns-in-Stopped : goal.returns-in-Stopped
+pub returns-in-Ok-Stopped : goal.returns-in-Ok-Stopped
 unfolding single_lines after_single ascii
-returns-in-Stopped c = rw (c.in-Stopped.is, ← lines_of) (puts_then (rw c.from-in-Stopped.ensures at c.put_two-end.ensures) c.put_records.ensures)
+returns-in-Ok-Stopped c = rw (c.in-Ok-Stopped.is, ← lines_of) (puts_then (rw c.from-in-Ok-Stopped.ensures at c.put_two-end.ensures) c.put_records.ensures)
 
-pub returns-in-Ended : goal.returns-in-Ended
+pub returns-in-Ok-Ended : goal.returns-in-Ok-Ended
 unfolding single_lines after_single ascii
-returns-in-Ended c = rw (c.in-Ended.is, ← lines_of) c.put_counted.ensures
+returns-in-Ok-Ended c = rw (c.in-Ok-Ended.is, ← lines_of) c.put_counted.ensures
 
-pub returns-in-Budget : goal.returns-in-Budget
+pub returns-in-Ok-Budget : goal.returns-in-Ok-Budget
 unfolding single_lines after_single ascii
-returns-in-Budget c = rw (c.in-Budget.is, ← lines_of) c.put_counted-in-Budget.ensures
+returns-in-Ok-Budget c = rw (c.in-Ok-Budget.is, ← lines_of) c.put_counted-in-Ok-Budget.ensures
