@@ -5,6 +5,7 @@ ghost use Rattle.listing.specs.Lines.{case_line, marked, walk_line, order_word, 
 ghost use Rattle.listing.specs.Most.{most_of_case, most_of_walk, most_of_order};
 
 use order::Order;
+use refusals::Refusal;
 use walk::Step;
 
 // The line of a case's number.
@@ -43,7 +44,7 @@ pub fn put_walk(bytes: &[u8], out: &mut [u8], at: usize) -> usize
             }
             Step::End => return text::plain::put(out, to, b" end\n"),
             Step::Bad(place) => {
-                let end = put_marked(refusals::NOT_AN_EVENT as u64, b" ", place as u64, out, to);
+                let end = put_marked(Refusal::NotAnEvent as u64, b" ", place as u64, out, to);
                 return text::plain::put(out, end, b"\n");
             }
         }
