@@ -1,26 +1,23 @@
 -- Whether a site is at a meeting, from where it stands and what it is asked to do. Assumes nothing.
 use mathlib.Core.Path.{◌≡◌}
-use mathlib.Core.Bool.{Bool, true, false, not}
+use mathlib.Core.Bool.{true, false}
 use mathlib.Core.List.{List}
 use Prim.Native.Nat.{ℕ}
 use borrow.Author.Tests.{ne_eqb, eq-eqb}
-use lib.IntN.{ℤ}
 use Rattle.std.specs.Prelude.{Option, Some, None}
-use Rattle.numbers.specs.Integers.{same_integer}
-use Rattle.parties.specs.Sets.{member, same_set}
+use Rattle.parties.specs.Sets.{same_set}
 use Rattle.limits.specs.declared.Party.{Party}
 use Rattle.parties.specs.declared.sets.PartySet.{PartySet}
 use Rattle.nodes.specs.declared.JointNode.{JointNode}
-use Rattle.rules.specs.Joint.{attendance, agrees}
+use Rattle.rules.specs.Joint.{attendance}
 use Rattle.rules.specs.declared.effects.Offer.{Offer}
-use Rattle.rules.specs.declared.effects.Offer.TheVariants.{Empty, Secret}
 use Rattle.area.specs.Levels.{control_of}
 use Rattle.seats.specs.Seats.{seat_at, site_of}
 use Rattle.area.specs.declared.stand.Stand.{Stand}
 use Rattle.seats.specs.declared.Seat.{Seat}
 use Rattle.seats.specs.declared.Seat.TheVariants.{Running, Finished, Stopped}
 use Rattle.site.specs.Own.{Invites}
-use Rattle.attends.specs.Attends.{told, AttendsFrom, IsAt}
+use Rattle.attends.specs.Attends.{AttendsFrom, IsAt}
 use Rattle.site.specs.declared.own.Invitation.{Invitation}
 
 -- ---- a site that stands at t
