@@ -10,7 +10,6 @@ use Rattle.rules.specs.declared.effects.View.TheVariants.{Whole}
 use Rattle.rules.specs.declared.effects.Effect.{Effect}
 use Rattle.area.specs.Levels.{names_at}
 use Rattle.area.specs.declared.stand.Stand.{Stand}
-use Rattle.area.specs.declared.stand.Next.{Next}
 use Rattle.table.specs.Table.{node_by}
 use Rattle.lookup.specs.Lookup.{joint_rule}
 use Rattle.lookup.proofs.JointLaws.{joint_rule_lem}
@@ -27,9 +26,6 @@ no_move (Asks effect) h = tt
 no_move Joins h = tt
 
 module _ (bs : List ℕ) (nodes : ℕ) (y : Advanced) (t : Stand) (w : List ℕ) where
-  pub effect_moved : (next : Next) (r : Effect) → y ≡ Moved next → EffectOf bs nodes y t r w
-  effect_moved next r e = record { asks = λ v a h. absurd (subst NoMove e h) }
-
   pub effect_asks : (effect : Effect) → y ≡ Asks effect → EffectOf bs nodes y t effect w
   effect_asks effect e = record { asks = λ v a h. let (is, asked, same, _) = a.asks effect e in (is, asked, same) }
 

@@ -17,7 +17,6 @@ use Rattle.records.specs.declared.events.Event.{Event}
 use Rattle.records.specs.declared.events.Event.TheVariants.{Wrote}
 use Rattle.refusals.specs.Numbers.{no_room}
 use Rattle.refusals.specs.declared.Refusal.{Refusal}
-use Rattle.refusals.specs.declared.Refusal.TheVariants.{WrongValue}
 use Rattle.rules.specs.Books.{Book, Books, handed, event_of, event_for, room_for, add, note}
 use Rattle.rules.specs.Moves.{move}
 use Rattle.rules.specs.Rules.{rule}
@@ -26,7 +25,7 @@ use Rattle.rules.specs.declared.effects.Effect.{Effect}
 use Rattle.rules.specs.Single.{Single, stopped, all_of, note_all, arrive, settle_all, perform, step}
 use Rattle.rules.specs.declared.effects.Move.{Move}
 use Rattle.rules.specs.declared.effects.Meeting.{Meeting}
-use Rattle.rules.specs.declared.effects.Offer.TheVariants.{Empty, Secret}
+use Rattle.rules.specs.declared.effects.Offer.TheVariants.{Secret}
 use Rattle.rules.specs.declared.effects.Effect.TheVariants.{Refuse, Goes, Writes, Meets}
 use Rattle.invariants.proofs.AllOfLaws.{all_by}
 use Rattle.invariants.proofs.BookLaws.{none_taken}
@@ -93,10 +92,6 @@ module _ (is : List ℤ) (end at : List ℕ) (m : PartySet) where
   pub refuses : (r : Refusal) → EntryOf is end (Refuse r) m (Stops r) at at
   unfolding perform
   refuses r = record { comes = λ S k c b q h. refl; inputs = λ b h. h }
-
-  pub empty_handed : (mt : Meeting) → EntryOf is end (Meets mt Empty) m (Stops WrongValue) at at
-  unfolding perform
-  empty_handed mt = record { comes = λ S k c b q h. refl; inputs = λ b h. h }
 
   -- an event other than a read is noted, and takes no input
   still_to_come : (ev : Event) → ((m : PartySet) (b : Books) (P : ℕ) → (note_all m (some ev) b P).inputs ≡ (b P).inputs) → (b : Books) → InputsHold max_parties is at end b

@@ -1,14 +1,12 @@
 -- READ in the lent bytes: the one party of the mode takes its next input. Assumes nothing.
 use mathlib.Core.Path.{◌≡◌, refl, ap, ◌∙◌}
 use mathlib.Core.Bool.{Bool, true, false, cond}
-use mathlib.Core.List.{List, [], ◌∷◌}
+use mathlib.Core.List.{List, ◌∷◌}
 use mathlib.Core.Option.{some}
-use Prim.Native.Nat.{ℕ, zero, suc, ◌+◌, ◌-◌, ◌≤◌, ◌<◌}
-use native.Mathlib.Decide.{dec_lt}
-use native.Mathlib.Omega.{arith}
+use Prim.Native.Nat.{ℕ, ◌+◌, ◌-◌, ◌≤◌, ◌<◌}
 use Rattle.std.specs.Prelude.{Some, None}
 use lib.IntN.{ℤ}
-use lib.ListN.{length, get_or, set, take, drop, drop_of_length-le}
+use lib.ListN.{length, get_or, set, take, drop}
 use Rattle.limits.specs.Limits.{max_parties}
 use Rattle.parties.specs.Sets.{member, count, lowest}
 use Rattle.parties.specs.SetLaws.{sole_member, lowest_one}
@@ -67,17 +65,3 @@ module _ (is : List ℤ) (end at : List ℕ) (m : PartySet) (one : count m ≡ 1
         comes = λ S k c b q h. rw (q, held_inputs b h ∙ head_some to_read i e);
         inputs = λ b h. rw reader (inputs_read m one i b is at end (drop 1 to_read) long h (held_inputs b h ∙ head_some to_read i e));
       }
-
--- where there is an input, its place is one of the list
-pub place_small : (k j : ℕ) (is : List ℤ) (i : ℤ) → head_of (take k (drop j is)) ≡ Some i → j < length is
-place_small k j is i e =
-    elim (dec_lt j (length is)) [
-      | yes h ↦ h
-      | no h ↦
-          let z : drop j is ≡ [] = drop_of_length-le is {i = j} (omega arith) in
-          absurd (nothing_there k (rw z at e))
-    ]
-  where
-    nothing_there : (k : ℕ) → head_of (take k []) ≡ Some i → ⊥
-    nothing_there zero q = let z : ◌≡◌ {A = ℕ} 0 1 = cc in omega arith
-    nothing_there (suc k) q = let z : ◌≡◌ {A = ℕ} 0 1 = cc in omega arith

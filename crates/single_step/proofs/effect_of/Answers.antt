@@ -1,9 +1,6 @@
 -- `single_step::effect_of` meets its contract. Assumes nothing.
-use Rattle.single_step.proofs.EffectLaws.{effect_moved, effect_asks, effect_joins}
+use Rattle.single_step.proofs.EffectLaws.{effect_asks, effect_joins}
 use Rattle.single_step.proofs.effect_of.Goals as goal
-
-pub returns-in-Moved : goal.returns-in-Moved
-returns-in-Moved c = let a = c.args in effect_moved a.program.now a.nodes a.advanced a.t a.w.now _ _ c.in-Moved.is
 
 pub returns-in-Asks : goal.returns-in-Asks
 returns-in-Asks c = let a = c.args in effect_asks a.program.now a.nodes a.advanced a.t a.w.now _ c.in-Asks.is

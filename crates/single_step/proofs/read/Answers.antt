@@ -1,11 +1,9 @@
 -- `single_step::read` meets its contract. Assumes nothing.
 use mathlib.Core.Path.{sym, ◌∙◌}
-use Prim.Native.Nat.{◌-◌}
 use native.Mathlib.Omega.{arith}
-use lib.ListN.{get_or}
 use Rattle.parties.specs.SetLaws.{lowest_one}
 use Rattle.numbers.proofs.IntegerLaws.{read32}
-use Rattle.single_step.proofs.ReadLaws.{read_none, read_some, place_small}
+use Rattle.single_step.proofs.ReadLaws.{read_none, read_some}
 use Rattle.single_step.proofs.read.Goals as goal
 
 pub next_input-requires : goal.next_input-requires
@@ -20,12 +18,6 @@ returns-in_default c =
 
 pub bounds-at-p : goal.bounds-at-p
 bounds-at-p c = omega (arith, (lowest_one _ c.requires.2).1, c.lowest-p.ensures)
-
-pub overflow_add-at : goal.overflow_add-at
-overflow_add-at c =
-    let a = c.args in
-    let p = c.lowest-p.result in
-    omega (arith, place_small (get_or a.end.now p 0 - get_or a.at.now p 0) (get_or a.at.now p 0) a.inputs.now _ (sym c.next_input.ensures ∙ c.in-Some.is))
 
 pub bounds-at-p-2 : goal.bounds-at-p-2
 bounds-at-p-2 c = omega (arith, (lowest_one _ c.requires.2).1, c.lowest-p.ensures)

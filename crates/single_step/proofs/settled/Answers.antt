@@ -1,11 +1,7 @@
 -- `single_step::settled` meets its contract. Assumes nothing.
 use mathlib.Core.Path.{sym, ◌∙◌}
-use borrow.Author.Rules.{rules}
 use Rattle.single_step.proofs.StepLaws.{settled_refusal, settled_by, settled_not}
 use Rattle.single_step.proofs.settled.Goals as goal
-
-pub note_all-requires : goal.note_all-requires
-note_all-requires c = (search rules, search rules, search rules, sym c.room_for_all.ensures ∙ c.if-room_for_all.true)
 
 pub returns-then-room_for_all : goal.returns-then-room_for_all
 returns-then-room_for_all c =
