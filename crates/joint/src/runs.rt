@@ -32,6 +32,7 @@ fn once(counts: bool) -> u32
 }
 
 // All turns of the list: strides of moves, and what is left to do of the turn after each. How many turns count.
+#[tactic(auto, using(crate::proofs::TurnLaws::going_none, crate::proofs::TurnLaws::rows_fit))]
 fn run_turns(
     program: &[u8],
     nodes: usize,

@@ -8,10 +8,6 @@ use Rattle.joint.proofs.runs.run_turns.Given as goal
 abbrev pub invariant-loop-j : goal.invariant-loop-j
 invariant-loop-j l =
     Going l.program l.nodes l.turns l.n l.room l.inputs l.end l.initial.at l.initial.bytes l.initial.lengths l.initial.work l.j l.count l.at l.bytes l.lengths l.work
-    × (length l.at ≡ length l.initial.at)
-    × (length l.bytes ≡ length l.initial.bytes)
-    × (length l.lengths ≡ length l.initial.lengths)
-    × (length l.work ≡ length l.initial.work)
 
 abbrev pub decreases-loop-j : goal.decreases-loop-j
 decreases-loop-j l =
