@@ -84,10 +84,7 @@ pub fn conclude(
     requires { (n ≤ max_parties) × (n * room ≤ length bytes.old) × (n ≤ length lengths.old) × (n * row_size ≤ length work.old) }
     ensures { ConcludesAll outcome m n room bytes.old lengths.old work.old bytes.new lengths.new work.new }
 {
-    let mut left = m.meet(PartySet::all(n));
-    while !left.is_empty() {
-        let p = left.lowest();
+    for p in m.meet(PartySet::all(n)).members() {
         conclude_one(outcome, p, room, bytes, lengths, work);
-        left = left.rest();
     }
 }
