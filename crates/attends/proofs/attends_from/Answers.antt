@@ -6,11 +6,11 @@ use borrow.Author.Tests.{not-true, not-false}
 use Rattle.attends.proofs.AttendLaws.{at_node, at_mode, at_not, at_there}
 use Rattle.attends.proofs.attends_from.Goals as goal
 
-pub returns-then-stands-e : goal.returns-then-stands-e
-returns-then-stands-e c = let a = c.args in at_node a.node a.t a.e a.m a.p a.room a.used a.area.now c.if-stands-e.true
+pub returns-then-stands-venue : goal.returns-then-stands-venue
+returns-then-stands-venue c = let a = c.args in at_node a.venue.node a.t a.venue.e a.venue.mode a.p a.room a.used a.area.now c.if-stands-venue.true
 
 pub returns-then-not-is : goal.returns-then-not-is
-returns-then-not-is c = let a = c.args in at_mode a.node a.t a.e a.m a.p a.room a.used a.area.now c.if-stands-e.false (sym c.is.ensures ∙ not-true c.is.result (ap not c.if-not-is.true))
+returns-then-not-is c = let a = c.args in at_mode a.venue.node a.t a.venue.e a.venue.mode a.p a.room a.used a.area.now c.if-stands-venue.false (sym c.is.ensures ∙ not-true c.is.result (ap not c.if-not-is.true))
 
 pub invited-requires : goal.invited-requires
 invited-requires c = c.requires
@@ -18,8 +18,8 @@ invited-requires c = c.requires
 pub returns-in_err-invitation : goal.returns-in_err-invitation
 returns-in_err-invitation c = let a = c.args in
     rw c.from_residual.ensures
-    (at_not a.node a.t a.e a.m a.p a.room a.used a.area.now c.if-stands-e.false (sym c.is.ensures ∙ not-false c.is.result (ap not c.if-not-is.false)) c.invited.result c.invited.ensures c.in_err-invitation.was)
+    (at_not a.venue.node a.t a.venue.e a.venue.mode a.p a.room a.used a.area.now c.if-stands-venue.false (sym c.is.ensures ∙ not-false c.is.result (ap not c.if-not-is.false)) c.invited.result c.invited.ensures c.in_err-invitation.was)
 
 pub returns : goal.returns
 returns c = let a = c.args in
-    at_there a.node a.t a.e a.m a.p a.room a.used a.area.now c.if-stands-e.false (sym c.is.ensures ∙ not-false c.is.result (ap not c.if-not-is.false)) c.invited.result c.invited.ensures _ c.in_ok-invitation.was
+    at_there a.venue.node a.t a.venue.e a.venue.mode a.p a.room a.used a.area.now c.if-stands-venue.false (sym c.is.ensures ∙ not-false c.is.result (ap not c.if-not-is.false)) c.invited.result c.invited.ensures _ c.in_ok-invitation.was

@@ -3,8 +3,8 @@ use Rattle.parties.proofs.LoopLaws.{LeftAt}
 use Rattle.meets.proofs.MeetLaws.{Agreeing}
 use Rattle.meets.proofs.present.all_agree.Given as goal
 
-abbrev pub invariant-loop-node : goal.invariant-loop-node
-invariant-loop-node l = LeftAt l.initial.left l.n (Agreeing l.node l.e l.m l.n l.room l.lengths l.work l.number l.holders) l.left
+abbrev pub invariant-loop-venue : goal.invariant-loop-venue
+invariant-loop-venue l = LeftAt l.initial.left l.n (Agreeing l.venue.node l.venue.e l.venue.mode l.n l.room l.lengths l.work l.number l.holders) l.left
 
-abbrev pub decreases-loop-node : goal.decreases-loop-node
-decreases-loop-node l = l.left.bits
+abbrev pub decreases-loop-venue : goal.decreases-loop-venue
+decreases-loop-venue l = l.left.bits
