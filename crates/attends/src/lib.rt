@@ -14,47 +14,45 @@ use parties::sets::PartySet;
 use rules::effects::Offer;
 use seats::Seat;
 
-// What site p, which stands at t, brings if it is at the node e in mode m and passes its own checks; else it is away.
+// Where a meeting is held: its node, the number of that node, and the mode of those who meet.
+#[derive(Clone, Copy)]
+pub struct Venue {
+    pub node: JointNode,
+    pub e: u16,
+    pub mode: PartySet,
+}
+
+// What site p, which stands at t, brings if it is at the venue and passes its own checks; else it is away.
 fn attends_from(
-    node: JointNode,
+    venue: Venue,
     t: Stand,
-    e: u16,
-    m: PartySet,
     p: Party,
     room: usize,
     used: usize,
     area: &[u8],
 ) -> Option<Offer>
     requires { (t.depth.frames ≤ max_frames) × (row_size ≤ length area.now) }
-    ensures { AttendsFrom node t e m p room used result area.now }
+    ensures { AttendsFrom venue.node t venue.e venue.mode p room used result area.now }
 {
     let stands = t.node;
     let mode = t.mode;
-    if stands != e {
+    if stands != venue.e {
         return None;
     }
-    if mode != m {
+    if mode != venue.mode {
         return None;
     }
-    let invitation = site::own::invited(node, p, t, room, used, area)?;
+    let invitation = site::own::invited(venue.node, p, t, room, used, area)?;
     Some(invitation.offer)
 }
 
 // The same of any site. One that is over is away, and nobody is told whether it finished or stopped.
-pub fn attendance_of(
-    node: JointNode,
-    e: u16,
-    m: PartySet,
-    p: Party,
-    room: usize,
-    used: usize,
-    area: &[u8],
-) -> Option<Offer>
+pub fn attendance_of(venue: Venue, p: Party, room: usize, used: usize, area: &[u8]) -> Option<Offer>
     requires { row_size ≤ length area.now }
-    ensures { IsAt node e m p room used result area.now }
+    ensures { IsAt venue.node venue.e venue.mode p room used result area.now }
 {
     match seats::load_seat(area) {
-        Seat::Running(t) => attends_from(node, t, e, m, p, room, used, area),
+        Seat::Running(t) => attends_from(venue, t, p, room, used, area),
         Seat::Finished => None,
         Seat::Stopped => None,
     }

@@ -5,37 +5,27 @@ ghost use Rattle.area.specs.Rows.{row_size};
 ghost use Rattle.meets.specs.Meets.{Attends, Brings, Gathers, MemberAgrees, AllAgree, Agreed};
 
 use area::stand::ROW;
+use attends::Venue;
 use limits::Party;
-use nodes::JointNode;
 use parties::sets::PartySet;
 use rules::effects::{Meeting, Offer};
 
-// What site p brings if it is at the node e in mode m, by its own area and the length of its own record.
-fn attendance_at(
-    node: JointNode,
-    e: u16,
-    m: PartySet,
-    p: u8,
-    room: usize,
-    lengths: &[usize],
-    work: &[u8],
-) -> Option<Offer>
+// What site p brings if it is at the venue, by its own area and the length of its own record.
+fn attendance_at(venue: Venue, p: u8, room: usize, lengths: &[usize], work: &[u8]) -> Option<Offer>
     requires { (p < length lengths.now) × (p * row_size + row_size ≤ length work.now) }
-    ensures { Attends node e m p room result lengths.now work.now }
+    ensures { Attends venue.node venue.e venue.mode p room result lengths.now work.now }
 {
     let i = p as usize;
     let party = Party { index: p };
     let from = i * ROW;
     let to = from + ROW;
     let used = lengths[i];
-    attends::attendance_of(node, e, m, party, room, used, &work[from..to])
+    attends::attendance_of(venue, party, room, used, &work[from..to])
 }
 
 // With what was brought before: what the member p brings, if it is there.
 fn brings(
-    node: JointNode,
-    e: u16,
-    m: PartySet,
+    venue: Venue,
     p: u8,
     room: usize,
     before: Offer,
@@ -43,40 +33,30 @@ fn brings(
     work: &[u8],
 ) -> Option<Offer>
     requires { (p < length lengths.now) × (p * row_size + row_size ≤ length work.now) }
-    ensures { Brings node e m p room before result lengths.now work.now }
+    ensures { Brings venue.node venue.e venue.mode p room before result lengths.now work.now }
 {
-    let offer = attendance_at(node, e, m, p, room, lengths, work)?;
+    let offer = attendance_at(venue, p, room, lengths, work)?;
     let Offer::Secret(_, _) = offer else {
         return Some(before);
     };
     Some(offer)
 }
 
-// What the members of m bring, if all of them are at the node e.
-pub fn gather(
-    node: JointNode,
-    e: u16,
-    m: PartySet,
-    n: u8,
-    room: usize,
-    lengths: &[usize],
-    work: &[u8],
-) -> Option<Offer>
+// What the members bring, if all of them are at the venue.
+pub fn gather(venue: Venue, n: u8, room: usize, lengths: &[usize], work: &[u8]) -> Option<Offer>
     requires { (n ≤ max_parties) × (n ≤ length lengths.now) × (n * row_size ≤ length work.now) }
-    ensures { Gathers node e m n room result lengths.now work.now }
+    ensures { Gathers venue.node venue.e venue.mode n room result lengths.now work.now }
 {
     let mut brought = Offer::Empty;
-    for p in m.meet(PartySet::all(n)).members() {
-        brought = brings(node, e, m, p, room, brought, lengths, work)?;
+    for p in venue.mode.meet(PartySet::all(n)).members() {
+        brought = brings(venue, p, room, brought, lengths, work)?;
     }
     Some(brought)
 }
 
 // The member p agrees with the number and its holders.
 fn member_agrees(
-    node: JointNode,
-    e: u16,
-    m: PartySet,
+    venue: Venue,
     p: u8,
     room: usize,
     number: i32,
@@ -85,17 +65,15 @@ fn member_agrees(
     work: &[u8],
 ) -> bool
     requires { (p < length lengths.now) × (p * row_size + row_size ≤ length work.now) }
-    ensures { MemberAgrees node e m p room number holders result lengths.now work.now }
+    ensures { MemberAgrees venue.node venue.e venue.mode p room number holders result lengths.now work.now }
 {
     let party = Party { index: p };
-    let a = attendance_at(node, e, m, p, room, lengths, work);
+    let a = attendance_at(venue, p, room, lengths, work);
     attends::agrees(number, holders, party, a)
 }
 
 fn all_agree(
-    node: JointNode,
-    e: u16,
-    m: PartySet,
+    venue: Venue,
     n: u8,
     room: usize,
     number: i32,
@@ -104,10 +82,10 @@ fn all_agree(
     work: &[u8],
 ) -> bool
     requires { (n ≤ max_parties) × (n ≤ length lengths.now) × (n * row_size ≤ length work.now) }
-    ensures { AllAgree node e m n room number holders result lengths.now work.now }
+    ensures { AllAgree venue.node venue.e venue.mode n room number holders result lengths.now work.now }
 {
-    for p in m.meet(PartySet::all(n)).members() {
-        if !member_agrees(node, e, m, p, room, number, holders, lengths, work) {
+    for p in venue.mode.meet(PartySet::all(n)).members() {
+        if !member_agrees(venue, p, room, number, holders, lengths, work) {
             return false;
         }
     }
@@ -116,9 +94,7 @@ fn all_agree(
 
 // At a REVEAL the members have to agree; at a SHARE there is nobody to agree with.
 pub fn agreed(
-    node: JointNode,
-    e: u16,
-    m: PartySet,
+    venue: Venue,
     mt: Meeting,
     n: u8,
     room: usize,
@@ -128,10 +104,10 @@ pub fn agreed(
     work: &[u8],
 ) -> bool
     requires { (n ≤ max_parties) × (n ≤ length lengths.now) × (n * row_size ≤ length work.now) }
-    ensures { Agreed node e m mt n room number holders result lengths.now work.now }
+    ensures { Agreed venue.node venue.e venue.mode mt n room number holders result lengths.now work.now }
 {
     match mt {
         Meeting::Sharing(_, _) => true,
-        Meeting::Revealing(_) => all_agree(node, e, m, n, room, number, holders, lengths, work),
+        Meeting::Revealing(_) => all_agree(venue, n, room, number, holders, lengths, work),
     }
 }

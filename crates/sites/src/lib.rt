@@ -9,6 +9,7 @@ ghost use Rattle.sites.specs.Turns.{LandsRow, TurnsJoined, Fits, TurnsCame};
 use advance::Advanced;
 use advance::strides::Did;
 use area::stand::{Next, ROW, Stand};
+use attends::Venue;
 use limits::Party;
 use site::own::Own;
 
@@ -30,15 +31,18 @@ fn joined(
     requires { (p < n) × (n ≤ max_parties) × (n * room ≤ length bytes.old) × (n ≤ length lengths.old) × (n * row_size ≤ length work.old) × (max_parties ≤ length at.old) × (max_parties ≤ length end.now) × (t.depth.frames ≤ max_frames) }
     ensures { TurnsJoined program.now nodes t p n room inputs.now end.now result at.old bytes.old lengths.old work.old at.new bytes.new lengths.new work.new }
 {
-    let e = t.node;
-    let m = t.mode;
     let from = p as usize * ROW;
     let to = from + ROW;
     let used = lengths[p as usize];
-    let node = table::joint_node(program, nodes, &work[from..to], e);
+    let node = table::joint_node(program, nodes, &work[from..to], t.node);
     let party = Party { index: p };
+    let venue = Venue {
+        node,
+        e: t.node,
+        mode: t.mode,
+    };
     match site::own::own_at(node, party, t, room, used, &work[from..to]) {
-        Own::Attends(mt, _) => turn_steps::meet(node, e, m, mt, n, room, bytes, lengths, work),
+        Own::Attends(mt, _) => turn_steps::meet(venue, mt, n, room, bytes, lengths, work),
         Own::Acts(own) => {
             turn_steps::act_alone(own, t, p, room, inputs, at, end, bytes, lengths, work);
             true

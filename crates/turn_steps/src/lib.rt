@@ -8,18 +8,15 @@ ghost use Rattle.advance.specs.Advances.{Asked};
 ghost use Rattle.turn_steps.specs.Steps.{once, taken_by, Meets, ActsAlone};
 
 use area::stand::{ROW, Stand};
+use attends::Venue;
 use concludes::Joined;
 use limits::Party;
-use nodes::JointNode;
-use parties::sets::PartySet;
 use rules::effects::{Effect, Meeting, Offer};
 
-// All of the mode m meet at the node e, if they can: whether anything was done.
+// All of the venue's mode meet there, if they can: whether anything was done.
 #[tactic(auto, using(crate::proofs::MeetLaws::meets_missing, crate::proofs::MeetLaws::meets_empty))]
 pub fn meet(
-    node: JointNode,
-    e: u16,
-    m: PartySet,
+    venue: Venue,
     mt: Meeting,
     n: u8,
     room: usize,
@@ -28,19 +25,18 @@ pub fn meet(
     work: &mut [u8],
 ) -> bool
     requires { (n ≤ max_parties) × (n * room ≤ length bytes.old) × (n ≤ length lengths.old) × (n * row_size ≤ length work.old) }
-    ensures { Meets node e m mt n room result bytes.old lengths.old work.old bytes.new lengths.new work.new }
+    ensures { Meets venue.node venue.e venue.mode mt n room result bytes.old lengths.old work.old bytes.new lengths.new work.new }
 {
-    let Some(Offer::Secret(number, holders)) = meets::present::gather(
-        node, e, m, n, room, lengths, work,
-    ) else {
+    let Some(Offer::Secret(number, holders)) = meets::present::gather(venue, n, room, lengths, work)
+    else {
         return false;
     };
-    let agreed = meets::present::agreed(node, e, m, mt, n, room, number, holders, lengths, work);
+    let agreed = meets::present::agreed(venue, mt, n, room, number, holders, lengths, work);
     let outcome = agreed.then_some(Joined {
         meeting: mt,
         number,
     });
-    concludes::conclude(outcome, m, n, room, bytes, lengths, work);
+    concludes::conclude(outcome, venue.mode, n, room, bytes, lengths, work);
     true
 }
 

@@ -9,10 +9,10 @@ pub attends_from-requires : goal.attends_from-requires
 attends_from-requires c = let a = c.args in (subst DeepSeat (sym c.load_seat.ensures ∙ c.in-Running.is) (seat_deep a.area.now), c.requires)
 
 pub returns-in-Running : goal.returns-in-Running
-returns-in-Running c = let a = c.args in at_running a.node a.e a.m a.p a.room a.used a.area.now c.load_seat.result c.load_seat.ensures _ _ c.in-Running.is c.attends_from.ensures
+returns-in-Running c = let a = c.args in at_running a.venue.node a.venue.e a.venue.mode a.p a.room a.used a.area.now c.load_seat.result c.load_seat.ensures _ _ c.in-Running.is c.attends_from.ensures
 
 pub returns-in-Finished : goal.returns-in-Finished
-returns-in-Finished c = let a = c.args in at_finished a.node a.e a.m a.p a.room a.used a.area.now c.load_seat.result c.load_seat.ensures c.in-Finished.is
+returns-in-Finished c = let a = c.args in at_finished a.venue.node a.venue.e a.venue.mode a.p a.room a.used a.area.now c.load_seat.result c.load_seat.ensures c.in-Finished.is
 
 pub returns-in-Stopped : goal.returns-in-Stopped
-returns-in-Stopped c = let a = c.args in at_stopped a.node a.e a.m a.p a.room a.used a.area.now c.load_seat.result c.load_seat.ensures c.in-Stopped.is
+returns-in-Stopped c = let a = c.args in at_stopped a.venue.node a.venue.e a.venue.mode a.p a.room a.used a.area.now c.load_seat.result c.load_seat.ensures c.in-Stopped.is

@@ -5,12 +5,12 @@ use Rattle.parties.specs.Sets.{same_set}
 use Rattle.attends.proofs.AttendLaws.{at_node, at_mode, at_not, at_there}
 use Rattle.attends.proofs.attends_from.Goals as goal
 
-pub returns-then-stands-e : goal.returns-then-stands-e
-returns-then-stands-e c = let a = c.args in at_node a.node a.t a.e a.m a.p a.room a.used a.area.now c.if-stands-e.true
+pub returns-then-stands-venue : goal.returns-then-stands-venue
+returns-then-stands-venue c = let a = c.args in at_node a.venue.node a.t a.venue.e a.venue.mode a.p a.room a.used a.area.now c.if-stands-venue.true
 
 pub returns-then-ne : goal.returns-then-ne
 unfolding same_set
-returns-then-ne c = let a = c.args in at_mode a.node a.t a.e a.m a.p a.room a.used a.area.now c.if-stands-e.false (not-true _ (sym c.ne.ensures ∙ c.if-ne.true))
+returns-then-ne c = let a = c.args in at_mode a.venue.node a.t a.venue.e a.venue.mode a.p a.room a.used a.area.now c.if-stands-venue.false (not-true _ (sym c.ne.ensures ∙ c.if-ne.true))
 
 pub invited-requires : goal.invited-requires
 invited-requires c = c.requires
@@ -19,9 +19,9 @@ pub returns-in_err-invitation : goal.returns-in_err-invitation
 unfolding same_set
 returns-in_err-invitation c = let a = c.args in
     rw c.from_residual.ensures
-    (at_not a.node a.t a.e a.m a.p a.room a.used a.area.now c.if-stands-e.false (not-false _ (sym c.ne.ensures ∙ c.if-ne.false)) c.invited.result c.invited.ensures c.in_err-invitation.was)
+    (at_not a.venue.node a.t a.venue.e a.venue.mode a.p a.room a.used a.area.now c.if-stands-venue.false (not-false _ (sym c.ne.ensures ∙ c.if-ne.false)) c.invited.result c.invited.ensures c.in_err-invitation.was)
 
 pub returns : goal.returns
 unfolding same_set
 returns c = let a = c.args in
-    at_there a.node a.t a.e a.m a.p a.room a.used a.area.now c.if-stands-e.false (not-false _ (sym c.ne.ensures ∙ c.if-ne.false)) c.invited.result c.invited.ensures _ c.in_ok-invitation.was
+    at_there a.venue.node a.t a.venue.e a.venue.mode a.p a.room a.used a.area.now c.if-stands-venue.false (not-false _ (sym c.ne.ensures ∙ c.if-ne.false)) c.invited.result c.invited.ensures _ c.in_ok-invitation.was

@@ -14,7 +14,7 @@ pub loop-p-init : goal.loop-p-init
 loop-p-init c =
     let a = c.args in
     left_start _ _ (rw (c.into_iter-p-iterator.ensures.into_iter_gives, c.members-p-items.ensures, c.meet.ensures, c.all.ensures))
-    (agree_passes a.node a.e a.m a.n a.room a.lengths.now a.work.now (to_z w32 (of_z w32 a.number)) a.holders _ refl) (agree_none a.node a.e a.m a.n a.room a.lengths.now a.work.now (to_z w32 (of_z w32 a.number)) a.holders)
+    (agree_passes a.venue.node a.venue.e a.venue.mode a.n a.room a.lengths.now a.work.now (to_z w32 (of_z w32 a.number)) a.holders _ refl) (agree_none a.venue.node a.venue.e a.venue.mode a.n a.room a.lengths.now a.work.now (to_z w32 (of_z w32 a.number)) a.holders)
 
 pub member_agrees-requires : goal.member_agrees-requires
 member_agrees-requires c =
@@ -25,20 +25,20 @@ pub returns-then-not-member_agrees : goal.returns-then-not-member_agrees
 returns-then-not-member_agrees c =
     let a = c.args in
     let here = left_here _ _ (omega arith) c.loop-p.invariant (below_within _ _) c.in-Some.ensures.steps in
-    let inside = below_in _ a.m a.n refl c.in-Some.p here.below ∙ here.inside in
+    let inside = below_in _ a.venue.mode a.n refl c.in-Some.p here.below ∙ here.inside in
     rw (read32 a.number c.ranges.number) at
-    (agree_not a.node a.e a.m a.n a.room a.lengths.now a.work.now (to_z w32 (of_z w32 a.number)) a.holders c.in-Some.p here.below inside c.member_agrees.result c.member_agrees.ensures (ap not c.if-not-member_agrees.true))
+    (agree_not a.venue.node a.venue.e a.venue.mode a.n a.room a.lengths.now a.work.now (to_z w32 (of_z w32 a.number)) a.holders c.in-Some.p here.below inside c.member_agrees.result c.member_agrees.ensures (ap not c.if-not-member_agrees.true))
 
 pub loop-p-preserved : goal.loop-p-preserved
 loop-p-preserved c =
     let a = c.args in
     let here = left_here _ _ (omega arith) c.loop-p.invariant (below_within _ _) c.in-Some.ensures.steps in
-    let inside = below_in _ a.m a.n refl c.in-Some.p here.below ∙ here.inside in
-    left_next _ _ here (agree_passes a.node a.e a.m a.n a.room a.lengths.now a.work.now (to_z w32 (of_z w32 a.number)) a.holders _ refl)
-    (agree_more a.node a.e a.m a.n a.room a.lengths.now a.work.now (to_z w32 (of_z w32 a.number)) a.holders c.in-Some.p here.below inside c.member_agrees.result c.member_agrees.ensures (ap not c.if-not-member_agrees.false) here.so_far)
+    let inside = below_in _ a.venue.mode a.n refl c.in-Some.p here.below ∙ here.inside in
+    left_next _ _ here (agree_passes a.venue.node a.venue.e a.venue.mode a.n a.room a.lengths.now a.work.now (to_z w32 (of_z w32 a.number)) a.holders _ refl)
+    (agree_more a.venue.node a.venue.e a.venue.mode a.n a.room a.lengths.now a.work.now (to_z w32 (of_z w32 a.number)) a.holders c.in-Some.p here.below inside c.member_agrees.result c.member_agrees.ensures (ap not c.if-not-member_agrees.false) here.so_far)
 
 pub returns : goal.returns
 returns c =
     let a = c.args in
     rw (read32 a.number c.ranges.number) at
-    (agree_all a.node a.e a.m a.n a.room a.lengths.now a.work.now (to_z w32 (of_z w32 a.number)) a.holders (left_over _ _ (omega arith) c.loop-p.invariant c.in-None.ensures.steps))
+    (agree_all a.venue.node a.venue.e a.venue.mode a.n a.room a.lengths.now a.work.now (to_z w32 (of_z w32 a.number)) a.holders (left_over _ _ (omega arith) c.loop-p.invariant c.in-None.ensures.steps))

@@ -5,4 +5,4 @@ use Rattle.meets.proofs.MeetLaws.{Agreeing}
 use Rattle.meets.proofs.present.all_agree.Given as goal
 
 abbrev pub invariant-loop-p : goal.invariant-loop-p
-invariant-loop-p l = LeftAt (meet l.m (all l.n)) l.n (Agreeing l.node l.e l.m l.n l.room l.lengths l.work l.number l.holders) l.p-iterator.left
+invariant-loop-p l = LeftAt (meet l.venue.mode (all l.n)) l.n (Agreeing l.venue.node l.venue.e l.venue.mode l.n l.room l.lengths l.work l.number l.holders) l.p-iterator.left

@@ -4,4 +4,4 @@ use Rattle.meets.proofs.present.attendance_at.Goals as goal
 
 pub returns : goal.returns
 returns c = let a = c.args in
-    attends_told a.node a.e a.m a.p a.room a.lengths.now a.work.now c.attendance_of.result c.attendance_of.ensures
+    attends_told a.venue.node a.venue.e a.venue.mode a.p a.room a.lengths.now a.work.now c.attendance_of.result c.attendance_of.ensures

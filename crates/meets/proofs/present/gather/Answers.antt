@@ -11,7 +11,7 @@ pub loop-p-init : goal.loop-p-init
 loop-p-init c =
     let a = c.args in
     left_start _ _ (rw (c.into_iter-p-iterator.ensures.into_iter_gives, c.members-p-items.ensures, c.meet.ensures, c.all.ensures))
-    (gather_passes a.node a.e a.m a.n a.room a.lengths.now a.work.now _ refl Empty) (gather_none a.node a.e a.m a.n a.room a.lengths.now a.work.now)
+    (gather_passes a.venue.node a.venue.e a.venue.mode a.n a.room a.lengths.now a.work.now _ refl Empty) (gather_none a.venue.node a.venue.e a.venue.mode a.n a.room a.lengths.now a.work.now)
 
 pub brings-requires : goal.brings-requires
 brings-requires c =
@@ -22,17 +22,17 @@ pub returns-in_err-brought : goal.returns-in_err-brought
 returns-in_err-brought c =
     let a = c.args in
     let here = left_here _ _ (omega arith) c.loop-p.invariant (below_within _ _) c.in-Some.ensures.steps in
-    let inside = below_in _ a.m a.n refl c.in-Some.p here.below ∙ here.inside in
+    let inside = below_in _ a.venue.mode a.n refl c.in-Some.p here.below ∙ here.inside in
     rw c.from_residual.ensures
-    (gather_missing a.node a.e a.m a.n a.room a.lengths.now a.work.now c.in-Some.p c.loop-p.brought here.below inside c.brings.result c.brings.ensures c.in_err-brought.was)
+    (gather_missing a.venue.node a.venue.e a.venue.mode a.n a.room a.lengths.now a.work.now c.in-Some.p c.loop-p.brought here.below inside c.brings.result c.brings.ensures c.in_err-brought.was)
 
 pub loop-p-preserved : goal.loop-p-preserved
 loop-p-preserved c =
     let a = c.args in
     let here = left_here _ _ (omega arith) c.loop-p.invariant (below_within _ _) c.in-Some.ensures.steps in
-    let inside = below_in _ a.m a.n refl c.in-Some.p here.below ∙ here.inside in
-    left_next _ _ here (gather_passes a.node a.e a.m a.n a.room a.lengths.now a.work.now _ refl _)
-    (gather_more a.node a.e a.m a.n a.room a.lengths.now a.work.now c.in-Some.p c.loop-p.brought here.below inside c.brings.result c.brings.ensures _ c.in_ok-brought.was here.so_far)
+    let inside = below_in _ a.venue.mode a.n refl c.in-Some.p here.below ∙ here.inside in
+    left_next _ _ here (gather_passes a.venue.node a.venue.e a.venue.mode a.n a.room a.lengths.now a.work.now _ refl _)
+    (gather_more a.venue.node a.venue.e a.venue.mode a.n a.room a.lengths.now a.work.now c.in-Some.p c.loop-p.brought here.below inside c.brings.result c.brings.ensures _ c.in_ok-brought.was here.so_far)
 
 pub returns : goal.returns
-returns c = let a = c.args in gather_all a.node a.e a.m a.n a.room a.lengths.now a.work.now c.loop-p.brought (left_over _ _ (omega arith) c.loop-p.invariant c.in-None.ensures.steps)
+returns c = let a = c.args in gather_all a.venue.node a.venue.e a.venue.mode a.n a.room a.lengths.now a.work.now c.loop-p.brought (left_over _ _ (omega arith) c.loop-p.invariant c.in-None.ensures.steps)
