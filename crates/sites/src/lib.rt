@@ -106,7 +106,9 @@ pub fn turn(
             true
         }
         Advanced::Asks(effect) => {
-            turn_steps::act_alone(effect, stand, p, room, inputs, at, end, bytes, lengths, work);
+            turn_steps::act_alone(
+                effect, stand, p, room, inputs, at, end, bytes, lengths, work,
+            );
             true
         }
         Advanced::Joins => joined(

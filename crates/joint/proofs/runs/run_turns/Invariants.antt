@@ -1,5 +1,4 @@
 -- `joint::runs::run_turns`: what its loop keeps.
-use mathlib.Core.Path.{◌≡◌}
 use Prim.Native.Nat.{◌-◌}
 use lib.ListN.{length}
 use Rattle.joint.proofs.TurnLaws.{Going}
