@@ -37,7 +37,7 @@ fn main(rt: HostRuntime) -> io::Result<()> {
     let mut records = [0u8; 1536];
     let mut lengths = [0usize; 16];
     let mut work = [0u8; 49152];
-    let mut out = streams::large_buffer();
+    let mut out = streams::zeros::<65536>();
     let n = streams::read_full(&mut rt.stdin(), &mut text)?;
     print_runs(
         &text[..n],

@@ -1,4 +1,4 @@
-// What the programs read and lend: a slice filled from a reader, and large places of zeros.
+// What the programs read and lend: a slice filled from a reader, and places of zeros.
 #![tactic(auto)]
 
 ghost use Rattle.std.specs.Prelude.{◌≡◌, ◌<◌, length, take, IfOk, OnErr};
@@ -8,11 +8,11 @@ ghost use Rattle.streams.specs.Counts.{IsPrefixLen, CutShort};
 use std::io;
 use std::io::Read;
 
-// 65,536 zeros, for a loop that moves much data.
-pub fn large_buffer() -> [u8; 65536]
-    ensures { 65536 ≡ length result }
+// So many zeros.
+pub fn zeros<const N: usize>() -> [u8; N]
+    ensures { N ≡ length result }
 {
-    [0; 65536]
+    [0; N]
 }
 
 // Reads until the slice is full or the input ends: how many bytes came to its start.

@@ -113,7 +113,7 @@ fn next_case<R: Read, W: Write>(
     Ok(true)
 }
 
-// A proved loop has to end, and nothing says that a file does. So the loop counts its turns down, from a number that no file uses up.
+// A proved loop has to end, and nothing says that a file does. So the cases are counted, up to a number that no file comes to.
 fn run_cases<R: Read, W: Write>(
     space: &mut [u8],
     records: &mut [u8],
@@ -125,20 +125,10 @@ fn run_cases<R: Read, W: Write>(
 ) -> io::Result<()>
     requires { Spaces records.old lengths.old work.old out.old }
 {
-    let mut turns = u64::MAX;
-    while turns > 0
-        && next_case(
-            u64::MAX - turns,
-            space,
-            records,
-            lengths,
-            work,
-            out,
-            reader,
-            writer,
-        )?
-    {
-        turns -= 1;
+    for i in 0..u64::MAX {
+        if !next_case(i, space, records, lengths, work, out, reader, writer)? {
+            break;
+        }
     }
     Ok(())
 }
@@ -149,7 +139,7 @@ fn main(rt: HostRuntime) -> io::Result<()> {
     let mut records = [0u8; 8192];
     let mut lengths = [0usize; 17];
     let mut work = [0u8; 266240];
-    let mut out = streams::large_buffer();
+    let mut out = streams::zeros::<65536>();
     run_cases(
         &mut space,
         &mut records,

@@ -1,7 +1,5 @@
 -- How long a record may be, and how much is lent for its lines. Assumes nothing.
-use Rattle.std.specs.Prelude.{ℕ, ◌≤◌}
-use Rattle.walks.specs.declared.Got.{Got}
-use Rattle.walks.specs.declared.Got.TheVariants.{Record, Cut}
+use Rattle.std.specs.Prelude.{ℕ, ◌≤◌, Option, IfSome}
 
 -- a length is two bytes
 abbrev pub max_record : ℕ
@@ -11,6 +9,5 @@ max_record = 65535
 abbrev pub room_out : ℕ
 room_out = 1048576
 
-abbrev pub Fits : Got → Type 0
-Fits (Record n) = n ≤ max_record
-Fits Cut = Unit
+abbrev pub Fits : Option ℕ → Type 0
+Fits got = IfSome got (λ n. n ≤ max_record)

@@ -9,34 +9,20 @@ ghost use Rattle.walks.specs.Room.{max_record, room_out, Fits};
 use std::io;
 use std::io::{Read, Write};
 
-// Zeros, enough for a case's number and the walk of a record.
-fn lines_buffer() -> [u8; 1048576]
-    ensures { room_out ≡ length result }
-{
-    [0; 1048576]
-}
-
-// What is left of the input begins with a record of so many bytes, or is cut before its end.
-#[derive(Clone, Copy)]
-enum Got {
-    Record(usize),
-    Cut,
-}
-
-// Reads a record's length and its bytes, which come to the start of the slice.
-fn read_record<R: Read>(bytes: &mut [u8], reader: &mut R) -> io::Result<Got>
+// Reads a record's length and its bytes, which come to the start of the slice: how many there are, or `None` where the input is cut before their end.
+fn read_record<R: Read>(bytes: &mut [u8], reader: &mut R) -> io::Result<Option<usize>>
     requires { max_record ≤ length bytes.old }
     ensures { IfOk result Fits }
 {
     let mut head = [0u8; 2];
     if streams::read_full(reader, &mut head)? < 2 {
-        return Ok(Got::Cut);
+        return Ok(None);
     }
     let n = words::load2(&head, 0) as usize;
     if streams::read_full(reader, &mut bytes[..n])? < n {
-        return Ok(Got::Cut);
+        return Ok(None);
     }
-    Ok(Got::Record(n))
+    Ok(Some(n))
 }
 
 // The lines of a case, written as they are put.
@@ -70,10 +56,10 @@ fn do_case<R: Read, W: Write>(
 ) -> io::Result<bool>
     requires { (max_record ≤ length a.old) × (max_record ≤ length b.old) × (room_out ≤ length out.old) }
 {
-    let Got::Record(m) = read_record(a, reader)? else {
+    let Some(m) = read_record(a, reader)? else {
         return Ok(false);
     };
-    let Got::Record(n) = read_record(b, reader)? else {
+    let Some(n) = read_record(b, reader)? else {
         return Ok(false);
     };
     show(number, &a[..m], &b[..n], out, writer)?;
@@ -82,16 +68,16 @@ fn do_case<R: Read, W: Write>(
 
 // A proved loop has to end, and nothing says that the input does. So the cases are counted, up to a number that no run comes to.
 fn main(rt: HostRuntime) -> io::Result<()> {
-    let mut a = streams::large_buffer();
-    let mut b = streams::large_buffer();
-    let mut out = lines_buffer();
+    let mut a = streams::zeros::<65536>();
+    let mut b = streams::zeros::<65536>();
+    // Enough for a case's number and the walk of a record.
+    let mut out = streams::zeros::<1048576>();
     let mut reader = rt.stdin();
     let mut writer = rt.stdout();
-    let mut number: u64 = 0;
-    while number < u64::MAX
-        && do_case(number, &mut a, &mut b, &mut out, &mut reader, &mut writer)?
-    {
-        number += 1;
+    for number in 0..u64::MAX {
+        if !do_case(number, &mut a, &mut b, &mut out, &mut reader, &mut writer)? {
+            break;
+        }
     }
     Ok(())
 }
