@@ -4,6 +4,7 @@ ghost use Rattle.limits.specs.Limits.{max_parties};
 ghost use Rattle.nodes.specs.Nodes.{node_in};
 ghost use Rattle.program.specs.Records.{reach_of, found_at, parties_in, AllGood, LostAt};
 ghost use Rattle.program.specs.Answer.{told, check_answer};
+ghost use Rattle.refusals.specs.declared.Refusal.TheVariants.{BadProgram};
 
 use crate::fields::fields_fit;
 use limits::Party;
@@ -25,7 +26,7 @@ pub struct BadRecord {
 
 // A call with a bad program is refused there.
 impl From<BadRecord> for Refused {
-    ghost from_gives = { λ bad refused. refused ≡ record { refusal = Refusal.BadProgram; place = bad.place } };
+    ghost from_gives = { λ bad refused. refused ≡ record { refusal = BadProgram; place = bad.place } };
 
     fn from(bad: BadRecord) -> Refused {
         Refusal::BadProgram.at(bad.place)
