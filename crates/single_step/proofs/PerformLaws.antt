@@ -3,6 +3,8 @@ use mathlib.Core.Path.{◌≡◌, refl, sym, ap, ◌∙◌, subst}
 use mathlib.Core.Bool.{Bool, true, false, cond}
 use mathlib.Core.List.{List}
 use mathlib.Core.Option.{none, some}
+use Rattle.std.specs.Prelude.{Result, Ok, Err}
+use Rattle.values.specs.declared.value.Value.{Value}
 use Prim.Native.Nat.{ℕ}
 use lib.IntN.{ℤ, pos}
 use lib.ListN.{take}
@@ -38,8 +40,6 @@ use Rattle.advance.specs.Advances.{Advances}
 use Rattle.advance.specs.declared.Advanced.TheVariants as Advanced'
 use Rattle.inputs.specs.Inputs.{InputsHold}
 use Rattle.single_step.specs.Steps.{Lists, Given, Stands, Comes, DeepAfter, Moved, entered, EntryOf, Settles, StepsOn}
-use Rattle.single_step.specs.declared.Entry.{Entry}
-use Rattle.single_step.specs.declared.Entry.TheVariants.{Stops, Notes}
 use Rattle.single_step.specs.declared.Stepped.{Stepped}
 use Rattle.single_step.specs.declared.Stepped.TheVariants.{On}
 use Rattle.single_step.proofs.StepLaws.{arrives_on, moved_by}
@@ -89,7 +89,7 @@ meeting_free mt i = all_keep (event_of mt i) (λ P b. none_taken P mt i b)
 -- ---- what each effect but a move and a READ comes to
 
 module _ (is : List ℤ) (end at : List ℕ) (m : PartySet) where
-  pub refuses : (r : Refusal) → EntryOf is end (Refuse r) m (Stops r) at at
+  pub refuses : (r : Refusal) → EntryOf is end (Refuse r) m (Err r) at at
   unfolding perform
   refuses r = record { comes = λ S k c b q h. refl; inputs = λ b h. h }
 
@@ -98,11 +98,11 @@ module _ (is : List ℤ) (end at : List ℕ) (m : PartySet) where
       → InputsHold max_parties is at end (note_all m (some ev) b)
   still_to_come ev free b h = inputs_same max_parties is at end b (note_all m (some ev) b) h (λ Q l. free m b Q)
 
-  pub writes : (i : ℤ) → EntryOf is end (Writes i) m (Notes (Wrote i) (Clear (pos 0) m)) at at
+  pub writes : (i : ℤ) → EntryOf is end (Writes i) m (Ok (Wrote i, Clear (pos 0) m)) at at
   unfolding perform
   writes i = record { comes = λ S k c b q h. rw q; inputs = still_to_come (Wrote i) (write_free i) }
 
-  pub meets : (mt : Meeting) (i : ℤ) (h : PartySet) → EntryOf is end (Meets mt (Secret i h)) m (Notes (event_of mt i) (handed mt i)) at at
+  pub meets : (mt : Meeting) (i : ℤ) (h : PartySet) → EntryOf is end (Meets mt (Secret i h)) m (Ok (event_of mt i, handed mt i)) at at
   unfolding perform
   meets mt i h = record { comes = λ S k c b q held. refl; inputs = still_to_come (event_of mt i) (meeting_free mt i) }
 
@@ -128,7 +128,7 @@ module _ (room n : ℕ) (is : List ℤ) (end : List ℕ) (t : Stand) (y : Steppe
       }
 
   -- any other effect: its entry is made
-  pub enters : (effect : Effect) (entry : Entry) → EntryOf is end effect t.mode entry l.at l'.at
+  pub enters : (effect : Effect) (entry : Result (Event × Value) Refusal) → EntryOf is end effect t.mode entry l.at l'.at
       → Settles room n entry t y l.bytes l.lengths l.work l'.bytes l'.lengths l'.work → Performs room n is end effect t y l l'
   unfolding control_of
   enters effect entry told s =

@@ -4,7 +4,7 @@ use mathlib.Core.Bool.{Bool, true, false, cond}
 use mathlib.Core.List.{List, ◌∷◌}
 use mathlib.Core.Option.{some}
 use Prim.Native.Nat.{ℕ, ◌+◌, ◌-◌, ◌≤◌, ◌<◌}
-use Rattle.std.specs.Prelude.{Some, None}
+use Rattle.std.specs.Prelude.{Some, None, Ok, Err}
 use lib.IntN.{ℤ}
 use lib.ListN.{length, get_or, set, take, drop}
 use Rattle.limits.specs.Limits.{max_parties}
@@ -19,7 +19,6 @@ use Rattle.rules.specs.Single.{note_all, read_all, perform}
 use Rattle.rules.specs.declared.effects.Effect.TheVariants.{Reads}
 use Rattle.inputs.specs.Inputs.{InputsHold, head_of}
 use Rattle.single_step.specs.Steps.{EntryOf}
-use Rattle.single_step.specs.declared.Entry.TheVariants.{Stops, Notes}
 use Rattle.inputs.proofs.InputLaws.{inputs_taken, head_none, head_some}
 
 -- ---- what the books have once the one party has noted that it read i
@@ -53,12 +52,12 @@ module _ (is : List ℤ) (end at : List ℕ) (m : PartySet) (one : count m ≡ 1
   unfolding to_read
   held_inputs b h = rw reader (h (lowest m) (lowest_one m one).1)
 
-  pub read_none : head_of (take (get_or end P 0 - get_or at P 0) (drop (get_or at P 0) is)) ≡ None → EntryOf is end Reads m (Stops NoInput) at at
+  pub read_none : head_of (take (get_or end P 0 - get_or at P 0) (drop (get_or at P 0) is)) ≡ None → EntryOf is end Reads m (Err NoInput) at at
   unfolding to_read perform read_all
   read_none e = record { comes = λ S k c b q h. rw (q, held_inputs b h ∙ head_none to_read e); inputs = λ b h. h }
 
   pub read_some : (i : ℤ) → max_parties ≤ length at → head_of (take (get_or end P 0 - get_or at P 0) (drop (get_or at P 0) is)) ≡ Some i
-      → EntryOf is end Reads m (Notes (Read i) (Clear i m)) at (set at P (get_or at P 0 + 1))
+      → EntryOf is end Reads m (Ok (Read i, Clear i m)) at (set at P (get_or at P 0 + 1))
   unfolding to_read perform read_all
   read_some i long e =
       record {

@@ -3,6 +3,7 @@ use mathlib.Core.Path.{◌≡◌, refl, sym, ap, ◌∙◌, subst}
 use mathlib.Core.Bool.{Bool, true, false, cond}
 use mathlib.Core.List.{List}
 use mathlib.Core.Option.{some}
+use Rattle.std.specs.Prelude.{Ok, Err}
 use Prim.Native.Nat.{ℕ, zero, suc, ◌≤◌, ◌<◌}
 use native.Mathlib.Omega.{arith}
 use lib.ListN.{length, get_or}
@@ -27,7 +28,6 @@ use Rattle.area.specs.declared.stand.Next.{Next}
 use Rattle.area.specs.declared.stand.Next.TheVariants as Next'
 use Rattle.ledger.specs.Ledger.{Holds, rooms_for, NotesAll, FinishesAll}
 use Rattle.single_step.specs.Steps.{Comes, Arrives, Moved, Settles}
-use Rattle.single_step.specs.declared.Entry.TheVariants.{Stops, Notes}
 use Rattle.single_step.specs.declared.Stepped.{Stepped}
 use Rattle.single_step.specs.declared.Stepped.TheVariants.{On, Ended, Stopped}
 use Rattle.ledger.proofs.RowLaws.{holds_length}
@@ -80,7 +80,7 @@ rooms_are R n m ev b xs₀ ls₀ xs ls h holds =
     (λ P l. ap (λ (u : ℕ). has_room R u (event_for P ev)) (sym (holds_length R n b b xs₀ ls₀ xs ls holds P l h)))
 
 module _ (room n : ℕ) (t : Stand) (xs ls w : List ℕ) where
-  pub settled_refusal : (r : Refusal) → Settles room n (Stops r) t (Stopped r) xs ls w xs ls w
+  pub settled_refusal : (r : Refusal) → Settles room n (Err r) t (Stopped r) xs ls w xs ls w
   unfolding control_of
   settled_refusal r = record { comes = λ G p q k b at at' st ins. (b, refl, st.holds); table = refl; deep = tt }
 
@@ -95,7 +95,7 @@ module _ (room n : ℕ) (ev : Event) (v : Value) (t : Stand) (xs ls w : List ℕ
 
   -- every member has room: all note the event, and the value is handed back
   pub settled_by : (y : Stepped) (xs₁ ls₁ xs' ls' w' : List ℕ) → rooms_for room n t.mode ev ls ≡ true → NotesAll room n t.mode ev xs ls xs₁ ls₁
-      → Moved room n (Hand v) t y xs₁ ls₁ w xs' ls' w' → Settles room n (Notes ev v) t y xs ls w xs' ls' w'
+      → Moved room n (Hand v) t y xs₁ ls₁ w xs' ls' w' → Settles room n (Ok (ev, v)) t y xs ls w xs' ls' w'
   settled_by y xs₁ ls₁ xs' ls' w' r a d =
       record {
         comes = λ G p q k b at at' st ins.
@@ -108,7 +108,7 @@ module _ (room n : ℕ) (ev : Event) (v : Value) (t : Stand) (xs ls w : List ℕ
       }
 
   -- a member lacks room: nobody notes it, and the run stops
-  pub settled_not : rooms_for room n t.mode ev ls ≡ false → Settles room n (Notes ev v) t (Stopped NoRoom) xs ls w xs ls w
+  pub settled_not : rooms_for room n t.mode ev ls ≡ false → Settles room n (Ok (ev, v)) t (Stopped NoRoom) xs ls w xs ls w
   settled_not r =
       record {
         comes = λ G p q k b at at' st ins. (b, settles_all p q k b G.bytes₀ G.lengths₀ st.holds G.places false r, st.holds);

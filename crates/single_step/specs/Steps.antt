@@ -1,9 +1,11 @@
 -- One step of the single run, in the lent bytes: from a stand, books and an area to what the step of the rules comes to.
-use Rattle.std.specs.Prelude.{◌≡◌, ℕ, ◌+◌, ◌*◌, ◌≤◌, ◌<◌, List, ℤ, length, take}
+use Rattle.std.specs.Prelude.{◌≡◌, ℕ, ◌+◌, ◌*◌, ◌≤◌, ◌<◌, List, ℤ, length, take, Result, Ok, Err}
 use Rattle.std.proofs.Math.Option.{some}
 use Rattle.limits.specs.Limits.{max_parties, max_frames}
 use Rattle.parties.specs.declared.sets.PartySet.{PartySet}
+use Rattle.refusals.specs.declared.Refusal.{Refusal}
 use Rattle.values.specs.declared.value.Value.{Value}
+use Rattle.records.specs.declared.events.Event.{Event}
 use Rattle.program.specs.Check.{Program, good, checked}
 use Rattle.refusals.specs.Numbers.{number_of}
 use Rattle.rules.specs.Books.{Books}
@@ -22,8 +24,6 @@ use Rattle.advance.specs.declared.Advanced.{Advanced}
 use Rattle.advance.specs.declared.Advanced.TheVariants as Advanced'
 use Rattle.ledger.specs.Ledger.{Holds, Fits}
 use Rattle.inputs.specs.Inputs.{InputsHold}
-use Rattle.single_step.specs.declared.Entry.{Entry}
-use Rattle.single_step.specs.declared.Entry.TheVariants.{Stops, Notes}
 use Rattle.single_step.specs.declared.Stepped.{Stepped}
 use Rattle.single_step.specs.declared.Stepped.TheVariants.{On, Ended, Stopped}
 use Rattle.single_step.specs.declared.Stride.{Stride}
@@ -78,22 +78,22 @@ pub record Moved (room n : ℕ) (mv : Move) (t : Stand) (y : Stepped) (bytes len
   pub deep : DeepAfter y
 
 -- what an entry comes to: the run stops, or each member notes the event and the value is handed back
-abbrev pub enter : Setting → ℕ → Control → Books → Entry → Single
-enter S k c b (Stops refusal) = stopped k (number_of refusal) c.node b
-enter S k c b (Notes ev v) = settle_all S k c b (some ev) (Hand v)
+abbrev pub enter : Setting → ℕ → Control → Books → Result (Event × Value) Refusal → Single
+enter S k c b (Err refusal) = stopped k (number_of refusal) c.node b
+enter S k c b (Ok (ev, v)) = settle_all S k c b (some ev) (Hand v)
 
 -- the books once an entry is made
-abbrev pub entered : Entry → PartySet → Books → Books
-entered (Stops refusal) m b = b
-entered (Notes ev v) m b = note_all m (some ev) b
+abbrev pub entered : Result (Event × Value) Refusal → PartySet → Books → Books
+entered (Err refusal) m b = b
+entered (Ok (ev, v)) m b = note_all m (some ev) b
 
 -- an effect comes to an entry, where the next inputs are those at `at`, and then those at `at'`
-pub record EntryOf (is : List ℤ) (end : List ℕ) (effect : Effect) (m : PartySet) (entry : Entry) (at at' : List ℕ) : Type 0 where
+pub record EntryOf (is : List ℤ) (end : List ℕ) (effect : Effect) (m : PartySet) (entry : Result (Event × Value) Refusal) (at at' : List ℕ) : Type 0 where
   pub comes : (S : Setting) (k : ℕ) (c : Control) (b : Books) → c.mode ≡ m → InputsHold max_parties is at end b → perform S k c b effect ≡ enter S k c b entry
   pub inputs : (b : Books) → InputsHold max_parties is at end b → InputsHold max_parties is at' end (entered entry m b)
 
 -- an entry is made, by each member or, where one lacks room, by nobody; `at'` has what the books then have as inputs
-pub record Settles (room n : ℕ) (entry : Entry) (t : Stand) (y : Stepped) (bytes lengths work bytes' lengths' work' : List ℕ) : Type 0 where
+pub record Settles (room n : ℕ) (entry : Result (Event × Value) Refusal) (t : Stand) (y : Stepped) (bytes lengths work bytes' lengths' work' : List ℕ) : Type 0 where
   pub comes : (G : Given room n) (p : Program) → p.parties ≡ n → (k : ℕ) (b : Books) (at at' : List ℕ)
       → Stands G b (record { bytes = bytes; lengths = lengths; work = work; at = at })
       → InputsHold max_parties G.inputs at' G.end (entered entry t.mode b)

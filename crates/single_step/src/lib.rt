@@ -25,14 +25,6 @@ pub enum Stepped {
     Stopped(Refusal),
 }
 
-// What an effect comes to.
-#[derive(Clone, Copy)]
-enum Entry {
-    Stops(Refusal),
-    // what each member of the mode notes, and what is handed back
-    Notes(Event, Value),
-}
-
 // Where a move has led: on, to the end, where every party writes kind 6, or to no place for a frame more.
 fn arrive(next: Next, n: u8, room: usize, bytes: &mut [u8], lengths: &mut [usize]) -> Stepped
     requires { (n ≤ max_parties) × (n * room ≤ length bytes.old) × (n ≤ length lengths.old) }
@@ -67,7 +59,7 @@ fn hand_back(
 
 // Each member of the mode notes the event and the value is handed back; where a member lacks room, nobody notes it and the run stops, as at a refusal.
 fn settled(
-    entry: Entry,
+    entry: Result<(Event, Value), Refusal>,
     t: Stand,
     n: u8,
     room: usize,
@@ -80,8 +72,8 @@ fn settled(
 {
     let m = t.mode;
     match entry {
-        Entry::Stops(refusal) => Stepped::Stopped(refusal),
-        Entry::Notes(ev, v) => {
+        Err(refusal) => Stepped::Stopped(refusal),
+        Ok((ev, v)) => {
             if ledger::entries::room_for_all(ev, m, n, room, lengths) {
                 ledger::entries::note_all(ev, m, n, room, bytes, lengths);
                 return hand_back(v, t, n, room, bytes, lengths, work);
@@ -92,34 +84,45 @@ fn settled(
 }
 
 // READ: the next input of the one party of the mode.
-fn read(m: PartySet, inputs: &[i32], at: &mut [usize], end: &[usize]) -> Entry
+fn read(
+    m: PartySet,
+    inputs: &[i32],
+    at: &mut [usize],
+    end: &[usize],
+) -> Result<(Event, Value), Refusal>
     requires { (max_parties ≤ length at.old) × (max_parties ≤ length end.now) × (count m ≡ 1) }
     ensures { EntryOf inputs.now end.now Effect.Reads m result at.old at.new }
 {
     let p = m.lowest() as usize;
     let Some(i) = inputs::next_input(p, inputs, at, end) else {
-        return Entry::Stops(Refusal::NoInput);
+        return Err(Refusal::NoInput);
     };
     at[p] = at[p] + 1;
-    Entry::Notes(Event::Read(i), Value::Clear(i, m))
+    Ok((Event::Read(i), Value::Clear(i, m)))
 }
 
 // What an effect comes to that asks for more than a move: of a move nothing is left to do.
-fn entry_of(effect: Effect, m: PartySet, inputs: &[i32], at: &mut [usize], end: &[usize]) -> Entry
+fn entry_of(
+    effect: Effect,
+    m: PartySet,
+    inputs: &[i32],
+    at: &mut [usize],
+    end: &[usize],
+) -> Result<(Event, Value), Refusal>
     requires { (max_parties ≤ length at.old) × (max_parties ≤ length end.now) × Sound m effect × Asked effect }
     ensures { EntryOf inputs.now end.now effect m result at.old at.new }
 {
     match effect {
-        Effect::Refuse(refusal) => Entry::Stops(refusal),
+        Effect::Refuse(refusal) => Err(refusal),
         Effect::Goes(_) => unreachable!(),
         Effect::Reads => read(m, inputs, at, end),
-        Effect::Writes(i) => Entry::Notes(Event::Wrote(i), Value::Clear(0, m)),
+        Effect::Writes(i) => Ok((Event::Wrote(i), Value::Clear(0, m))),
         Effect::Meets(mt, offer) => match offer {
-            Offer::Empty => Entry::Stops(Refusal::WrongValue),
-            Offer::Secret(i, _) => Entry::Notes(
+            Offer::Empty => Err(Refusal::WrongValue),
+            Offer::Secret(i, _) => Ok((
                 judge::meetings::event_of(mt, i),
                 judge::meetings::handed(mt, i),
-            ),
+            )),
         },
     }
 }
