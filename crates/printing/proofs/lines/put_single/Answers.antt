@@ -22,7 +22,7 @@ returns-in-Refused c = rw c.in-Refused.is (rw c.from.ensures at c.put_two.ensure
 
 pub returns-in-Stopped : goal.returns-in-Stopped
 unfolding single_lines after_single ascii
-returns-in-Stopped c = rw (c.in-Stopped.is, ← lines_of) (puts_then (rw c.from-in-Stopped.ensures at c.put_two-end.ensures) c.put_records.ensures)
+returns-in-Stopped c = rw (c.in-Stopped.is, ← lines_of) (puts_then (rw c.from-number.ensures at c.put_two-end.ensures) c.put_records.ensures)
 
 pub returns-in-Ended : goal.returns-in-Ended
 unfolding single_lines after_single ascii
