@@ -89,7 +89,8 @@ pub fn put_single(
             at,
         ),
         Ok(single::runs::Answer::Stopped(refusal, node, _)) => {
-            let end = put_two(b"single stopped ", u8::from(refusal) as u64, node as u64, out, at);
+            let number = u8::from(refusal);
+            let end = put_two(b"single stopped ", number as u64, node as u64, out, at);
             put_records(n, records, lengths, out, end)
         }
         Ok(single::runs::Answer::Ended(steps)) => put_counted(

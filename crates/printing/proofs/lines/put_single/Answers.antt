@@ -22,7 +22,7 @@ returns-in-Err c = rw c.in-Err.is (rw c.from.ensures at c.put_two.ensures)
 
 pub returns-in-Ok-Stopped : goal.returns-in-Ok-Stopped
 unfolding single_lines after_single ascii
-returns-in-Ok-Stopped c = rw (c.in-Ok-Stopped.is, ← lines_of) (puts_then (rw c.from-in-Ok-Stopped.ensures at c.put_two-end.ensures) c.put_records.ensures)
+returns-in-Ok-Stopped c = rw (c.in-Ok-Stopped.is, ← lines_of) (puts_then (rw c.from-number.ensures at c.put_two-end.ensures) c.put_records.ensures)
 
 pub returns-in-Ok-Ended : goal.returns-in-Ok-Ended
 unfolding single_lines after_single ascii
