@@ -1,23 +1,12 @@
 -- `records::events::store_finished` meets its contract. Assumes nothing.
-use native.Mathlib.Omega.{arith}
 use mathlib.Core.List.{[], ◌∷◌, ◌++◌}
 use mathlib.Core.Path.{refl}
-use lib.ListN.{length-set}
 use Rattle.words.specs.Words.{low_first, integer_bytes}
 use Rattle.parties.specs.SetBytes.{set_bytes}
 use Rattle.numbers.proofs.IntegerLaws.{read32}
 use Rattle.records.specs.Events.{event_bytes}
 use Rattle.records.proofs.StoreLaws.{run_after}
 use Rattle.records.proofs.events.store_finished.Goals as goal
-
-pub store_byte_and_integer-requires : goal.store_byte_and_integer-requires
-store_byte_and_integer-requires c = simp length-set (omega arith)
-
-pub store_set-requires : goal.store_set-requires
-store_set-requires c = simp (c.store_byte_and_integer.auto.s, length-set) (omega arith)
-
-pub store_set-requires-2 : goal.store_set-requires-2
-store_set-requires-2 c = simp (c.store_set.auto.s, c.store_byte_and_integer.auto.s, length-set) (omega arith)
 
 pub returns : goal.returns
 unfolding event_bytes low_first

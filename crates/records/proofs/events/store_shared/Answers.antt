@@ -1,15 +1,10 @@
 -- `records::events::store_shared` meets its contract. Assumes nothing.
-use native.Mathlib.Omega.{arith}
 use mathlib.Core.List.{[], ◌∷◌}
 use mathlib.Core.Path.{refl}
-use lib.ListN.{length-set}
 use Rattle.parties.specs.SetBytes.{set_bytes}
 use Rattle.records.specs.Events.{event_bytes}
 use Rattle.records.proofs.StoreLaws.{run_after}
 use Rattle.records.proofs.events.store_shared.Goals as goal
-
-pub store_byte_and_set-requires : goal.store_byte_and_set-requires
-store_byte_and_set-requires c = simp length-set (omega arith)
 
 pub returns : goal.returns
 unfolding event_bytes

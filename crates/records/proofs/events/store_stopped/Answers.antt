@@ -1,20 +1,13 @@
 -- `records::events::store_stopped` meets its contract. Assumes nothing.
 use Prim.Native.Nat.{ℕ}
 use mathlib.Core.Path.{ap}
-use lib.ListN.{set, length-set}
-use native.Mathlib.Omega.{arith}
+use lib.ListN.{set}
 use mathlib.Core.List.{[], ◌∷◌}
 use native.Mathlib.Numerals.{add-one}
 use Rattle.words.specs.Words.{low_first}
 use Rattle.records.specs.Events.{event_bytes}
 use Rattle.records.proofs.StoreLaws.{run_after}
 use Rattle.records.proofs.events.store_stopped.Goals as goal
-
-pub bounds-s-at-2 : goal.bounds-s-at-2
-bounds-s-at-2 c = simp length-set (omega arith)
-
-pub store2-requires : goal.store2-requires
-store2-requires c = simp length-set (omega arith)
 
 pub returns : goal.returns
 unfolding event_bytes

@@ -34,18 +34,6 @@ pub returns-in-Wrote : goal.returns-in-Wrote
 unfolding event_bytes
 returns-in-Wrote c = stored_is _ _ c.in-Wrote.is _ _ c.args.at (simp (read32 c.in-Wrote.i (record { sfits = omega arith })) at c.store_byte_and_integer-in-Wrote.ensures)
 
-pub returns-in-Shared : goal.returns-in-Shared
-returns-in-Shared c = stored_is _ _ c.in-Shared.is _ _ c.args.at c.store_shared.ensures
-
-pub returns-in-Opened : goal.returns-in-Opened
-returns-in-Opened c = stored_is _ _ c.in-Opened.is _ _ c.args.at (simp (read32 c.in-Opened.i (record { sfits = omega arith })) at c.store_opened.ensures)
-
 pub returns-in-Passed : goal.returns-in-Passed
 unfolding event_bytes
 returns-in-Passed c = stored_is _ _ c.in-Passed.is _ _ c.args.at c.store_byte_and_set.ensures
-
-pub returns-in-Finished : goal.returns-in-Finished
-returns-in-Finished c = stored_is _ _ c.in-Finished.is _ _ c.args.at (simp (read32 c.in-Finished.i (record { sfits = omega arith })) at c.store_finished.ensures)
-
-pub returns-in-Stopped : goal.returns-in-Stopped
-returns-in-Stopped c = stored_is _ _ c.in-Stopped.is _ _ c.args.at c.store_stopped.ensures
