@@ -26,7 +26,7 @@ impl Lending {
 fn up_to(most: usize, n: usize) -> usize
     ensures { result ≡ up_to most n }
 {
-    if n < most { n } else { most }
+    n.min(most)
 }
 
 pub fn lending_of(head: &[u8]) -> Lending

@@ -57,7 +57,7 @@ fn read_case<R: Read, W: Write>(
 fn at_most(n: usize, space: &[u8]) -> usize
     ensures { IsPrefixLen result space.now × (result ≤ n) }
 {
-    if n < space.len() { n } else { space.len() }
+    n.min(space.len())
 }
 
 // Reads past some of the bytes, and says how many: 0 where there are none left.
