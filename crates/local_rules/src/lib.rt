@@ -2,14 +2,14 @@
 #![tactic(auto)]
 
 ghost use Rattle.std.specs.Prelude.{◌≡◌, cond, pos};
-ghost use Rattle.numbers.specs.Integers.{operate, same_integer};
+ghost use Rattle.numbers.specs.Integers.{operate, operation_of, same_integer};
 ghost use Rattle.values.specs.Values.{held};
 ghost use Rattle.values.specs.declared.value.Value.TheVariants.{Share};
-ghost use Rattle.nodes.specs.Nodes.{operation_of};
 ghost use Rattle.refusals.specs.Numbers.{wrong_mode};
 ghost use Rattle.rules.specs.Rules.{unless, hands_back, on_two, on_three, mux, if_clear, alone};
 ghost use Rattle.local_rules.specs.Handed.{clear_in};
 
+use numbers::integers::Operation;
 use parties::sets::PartySet;
 use rules::effects::{Effect, Move};
 use values::value::{Held, Value};
@@ -31,7 +31,7 @@ pub fn op(o: u8, x: Value, y: Value, m: PartySet) -> Effect
         return Effect::Refuse(refusals::WRONG_VALUE);
     };
     if s == t {
-        let n = nodes::operation_of(o).of(i, j);
+        let n = Operation::from(o).of(i, j);
         Effect::Goes(Move::Hand(Value::had_by(m, s, n)))
     } else {
         Effect::Refuse(refusals::WRONG_VALUE)

@@ -16,7 +16,7 @@ returns-in_default-held c = rw (sym c.held.ensures ∙ c.in-Number.is, sym c.hel
 pub returns-then-s-t : goal.returns-then-s-t
 returns-then-s-t c = let i = c.in-Number.i in
     let j = c.in-Number-held.j in
-    let n = (simp (read32 i (record { sfits = omega arith }), read32 j (record { sfits = omega arith })) at c.of-n.ensures) ∙ ap (λ (o : Operation). operate o i j) c.operation_of.ensures in
+    let n = (simp (read32 i (record { sfits = omega arith }), read32 j (record { sfits = omega arith })) at c.of-n.ensures) ∙ ap (λ (o : Operation). operate o i j) c.from.ensures in
     rw (sym c.held.ensures ∙ c.in-Number.is, sym c.held-2.ensures ∙ c.in-Number-held.is, c.if-s-t.true) (handed_number _ _ _ c.of-n.result _ (record { sfits = c.of-n.type_inv }) n c.had_by.ensures)
 
 pub returns-else-s-t : goal.returns-else-s-t
