@@ -6,7 +6,7 @@ use mathlib.Core.Bool.{Bool, true, false, ◌&&◌, ◌||◌, false≢true}
 use mathlib.Core.List.{List, [], ◌∷◌}
 use lib.IntN.{ℤ}
 use lib.ListN.{get_or}
-use Rattle.numbers.specs.Integers.{operate}
+use Rattle.numbers.specs.Integers.{operate, operation_of}
 use Rattle.parties.specs.Sets.{member, meet, join, only, make_up}
 use Rattle.parties.specs.SetLaws.{member_meet, member_join, same_set_lem}
 use Rattle.limits.specs.declared.Name.{Name}
@@ -14,7 +14,6 @@ use Rattle.parties.specs.declared.sets.PartySet.{PartySet}
 use Rattle.values.specs.Values.{place, restrict, slice, had_by}
 use Rattle.values.specs.declared.value.Value.{Value}
 use Rattle.values.specs.declared.value.Value.TheVariants.{Nothing, Clear, Share}
-use Rattle.nodes.specs.Nodes.{operation_of}
 use Rattle.nodes.specs.declared.Node.{Node}
 use Rattle.nodes.specs.declared.Node.TheVariants.{VAR, INT, OP, MUX, READ, WRITE, EMBED, SHARE, REVEAL, LET, CASE, PAR, CALL}
 use Rattle.rules.specs.Names.{Names, look, Looked, found, unbound, before, look_all, names_of}

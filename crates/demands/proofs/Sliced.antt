@@ -6,7 +6,7 @@ use mathlib.Core.List.{List, map}
 use borrow.Author.Tests.{eqb-true}
 use lib.IntN.{ℤ}
 use lib.ListN.{get_or}
-use Rattle.numbers.specs.Integers.{operate}
+use Rattle.numbers.specs.Integers.{operate, operation_of}
 use Rattle.parties.specs.Sets.{member, meet, is_empty, same_set, none}
 use Rattle.parties.specs.SetLaws.{member_meet, member_none, same_set_lem}
 use Rattle.limits.specs.declared.Name.{Name}
@@ -16,7 +16,6 @@ use Rattle.values.specs.declared.value.Value.{Value}
 use Rattle.values.specs.declared.value.Value.TheVariants.{Nothing, Clear, Share}
 use Rattle.std.specs.Prelude.{Option, Some, None}
 use Rattle.values.specs.declared.value.Held.{Held}
-use Rattle.nodes.specs.Nodes.{operation_of}
 use Rattle.nodes.specs.declared.Node.{Node}
 use Rattle.nodes.specs.declared.Node.TheVariants.{VAR, INT, OP, MUX, READ, WRITE, EMBED, SHARE, REVEAL, LET, CASE, PAR, CALL}
 use Rattle.refusals.specs.declared.Refusal.{Refusal}

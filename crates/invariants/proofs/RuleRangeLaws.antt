@@ -10,7 +10,7 @@ use lib.IntN.{ℤ, pos}
 use lib.ListN.{get_or}
 use mir.Syntax.{w32}
 use mir.Val.{SFits}
-use Rattle.numbers.specs.Integers.{operate, same_integer}
+use Rattle.numbers.specs.Integers.{operate, operation_of, same_integer}
 use Rattle.numbers.proofs.IntegerLaws.{operate_fits}
 use Rattle.parties.specs.Sets.{member, meet, is_empty, same_set}
 use Rattle.limits.specs.declared.Name.{Name}
@@ -22,7 +22,6 @@ use Rattle.values.specs.declared.value.Value.{Value}
 use Rattle.values.specs.declared.value.Value.TheVariants.{Nothing, Clear, Share}
 use Rattle.std.specs.Prelude.{Option, Some, None}
 use Rattle.values.specs.declared.value.Held.{Held}
-use Rattle.nodes.specs.Nodes.{operation_of}
 use Rattle.nodes.specs.declared.Node.{Node}
 use Rattle.nodes.specs.declared.Node.TheVariants.{VAR, INT, OP, MUX, READ, WRITE, EMBED, SHARE, REVEAL, LET, CASE, PAR, CALL}
 use Rattle.rules.specs.Names.{Names, look, Looked, found, unbound, before, look_all, names_of}

@@ -2,13 +2,13 @@
 #![tactic(auto)]
 
 ghost use Rattle.std.specs.Prelude.{◌≡◌, cond, pos};
-ghost use Rattle.numbers.specs.Integers.{operate, same_integer};
+ghost use Rattle.numbers.specs.Integers.{operate, operation_of, same_integer};
 ghost use Rattle.values.specs.Values.{held};
 ghost use Rattle.values.specs.declared.value.Value.TheVariants.{Share};
-ghost use Rattle.nodes.specs.Nodes.{operation_of};
 ghost use Rattle.rules.specs.Rules.{unless, hands_back, on_two, on_three, mux, if_clear, alone};
 ghost use Rattle.local_rules.specs.Handed.{clear_in};
 
+use numbers::integers::Operation;
 use parties::sets::PartySet;
 use refusals::Refusal;
 use rules::effects::{Effect, Move};
@@ -27,7 +27,7 @@ pub fn op(o: u8, x: Value, y: Value, m: PartySet) -> Effect
 {
     match (x.held(m), y.held(m)) {
         (Some(x), Some(y)) if x.secret == y.secret => {
-            let n = nodes::operation_of(o).of(x.number, y.number);
+            let n = Operation::from(o).of(x.number, y.number);
             Effect::Goes(Move::Hand(Value::had_by(m, x.secret, n)))
         }
         _ => Effect::Refuse(Refusal::WrongValue),

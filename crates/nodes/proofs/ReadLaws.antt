@@ -6,11 +6,10 @@ use native.Mathlib.Nat.{add_assoc, add-zero}
 use native.Mathlib.Omega.{arith}
 use lib.ListN.{length, get_or, drop, get_or-eq_default}
 use lib.Seq.{get_or-drop}
-use Rattle.numbers.specs.declared.integers.Operation.TheVariants.{Lt}
 use Rattle.words.specs.Words.{number_at, Spells}
 use Rattle.words.proofs.WordLaws.{number_same}
 use Rattle.words.proofs.SpellLaws.{spelled_number}
-use Rattle.nodes.specs.Nodes.{node_of, node_in, joint_node, operation_of}
+use Rattle.nodes.specs.Nodes.{node_of, node_in, joint_node}
 use Rattle.nodes.specs.declared.Node.TheVariants.{READ, SHARE, REVEAL}
 use Rattle.nodes.specs.declared.JointNode.TheVariants.{Neither}
 use Rattle.nodes.specs.RangeLaws.{past, every, NoneOf}
@@ -79,13 +78,3 @@ other_neither k b =
     (λ n. refl, (λ n. refl, (λ n. refl, (λ n. refl, (λ n. refl, (λ n. refl, (λ n. refl, (λ n. refl, (λ n. absurd (n.0.1 refl), (λ n. absurd (n.1 refl), (λ n. refl, (λ n. refl, (λ n. refl, (λ n. refl, tt))))))))))))))
     (λ m n. refl)
     k
-
--- and those that no arm of `operation_of` has are lt's, or no operation's
-pub other_operation : {o : ℕ} → NoneOf (3 ∷ 2 ∷ 1 ∷ 0 ∷ []) o → Lt ≡ operation_of o
-unfolding operation_of
-other_operation {o = zero} a = absurd (a.0.0.0.1 refl)
-other_operation {o = suc zero} a = absurd (a.0.0.1 refl)
-other_operation {o = suc (suc zero)} a = absurd (a.0.1 refl)
-other_operation {o = suc (suc (suc zero))} a = absurd (a.1 refl)
-other_operation {o = suc (suc (suc (suc zero)))} a = refl
-other_operation {o = suc (suc (suc (suc (suc k))))} a = refl

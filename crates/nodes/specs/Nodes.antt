@@ -1,8 +1,6 @@
 -- Document 01, "Program bytes": the table of kinds, and the node that a record's bytes are.
 use Rattle.std.specs.Prelude.{ℕ, ◌+◌, Bool, ◌&&◌, List, [], ◌∷◌, leb, get_or, drop}
 use Rattle.words.specs.Words.{number_at, integer_at}
-use Rattle.numbers.specs.declared.integers.Operation.{Operation}
-use Rattle.numbers.specs.declared.integers.Operation.TheVariants.{Add, Sub, Mul, Eq, Lt}
 use Rattle.parties.specs.SetBytes.{set_at}
 use Rattle.limits.specs.declared.Name.{Name}
 use Rattle.nodes.specs.declared.Node.{Node}
@@ -17,10 +15,6 @@ is_node_kind kind = leb 1 kind && leb kind 13
 -- "a body whose length the kind fixes": of kinds 0 to 13
 unfoldable pub body_length : ℕ → ℕ
 body_length kind = get_or (1 ∷ 1 ∷ 4 ∷ 3 ∷ 3 ∷ 0 ∷ 1 ∷ 1 ∷ 4 ∷ 3 ∷ 5 ∷ 5 ∷ 4 ∷ 3 ∷ []) kind 0
-
--- "o: 0 add, 1 sub, 2 mul, 3 eq, 4 lt"
-unfoldable pub operation_of : ℕ → Operation
-operation_of o = get_or (Add ∷ Sub ∷ Mul ∷ Eq ∷ Lt ∷ []) o Lt
 
 -- the node of a kind whose body stands at the head of b; kinds that are no node's are READ, and nobody asks for them
 unfoldable pub node_of : ℕ → List ℕ → Node

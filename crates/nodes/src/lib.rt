@@ -5,10 +5,9 @@
 ghost use Rattle.std.specs.Prelude.{◌≡◌, ◌/◌, ◌%◌, ◌<◌, get_or};
 ghost use Rattle.words.specs.Words.{number_at, Spells};
 ghost use Rattle.parties.specs.SetBytes.{set_at};
-ghost use Rattle.nodes.specs.Nodes.{operation_of, node_in, joint_node};
+ghost use Rattle.nodes.specs.Nodes.{node_in, joint_node};
 
 use limits::{Name, Party};
-use numbers::integers::Operation;
 use parties::sets::PartySet;
 
 #[derive(Clone, Copy)]
@@ -37,18 +36,6 @@ pub enum Node {
 impl Node {
     // A program has at most so many.
     pub const MAX: usize = 1024;
-}
-
-pub fn operation_of(o: u8) -> Operation
-    ensures { result ≡ operation_of o }
-{
-    match o {
-        0 => Operation::Add,
-        1 => Operation::Sub,
-        2 => Operation::Mul,
-        3 => Operation::Eq,
-        _ => Operation::Lt,
-    }
 }
 
 pub fn byte(p: &[u8], i: usize) -> u8

@@ -1,6 +1,7 @@
--- The tests eq and lt of two integers as the code makes them. Assumes nothing.
+-- The tests eq and lt of two integers as the code makes them, and the operations by their numbers. Assumes nothing.
 use mathlib.Core.Path.{◌≡◌, refl, sym, ap, ◌∙◌}
 use mathlib.Core.Bool.{Bool, true, false}
+use Prim.Native.Nat.{ℕ, zero, suc, ◌≤◌}
 use native.Mathlib.Omega.{arith}
 use lib.Dec.{eqb}
 use lib.IntN.{ℤ, pos, negsuc, ◌-ℤ◌}
@@ -8,7 +9,7 @@ use lib.Signed.{lt_z}
 use mir.Syntax.{w32}
 use mir.Val.{SFits, to_z, of_z}
 use borrow.Author.Tests.{le-ltb, eq-eqb, eqb-true, eqb-false}
-use Rattle.numbers.specs.Integers.{reduced, same_integer, negative, flag, operate}
+use Rattle.numbers.specs.Integers.{reduced, same_integer, negative, flag, operate, operation_of}
 use Rattle.numbers.specs.declared.integers.Operation.TheVariants.{Sub, Lt}
 use Rattle.numbers.proofs.IntegerLaws.{no, no', read32}
 
@@ -51,3 +52,13 @@ less_negative (negsuc n) b h = h
 pub lt_operate : (x y : ℤ) → operate Lt x y ≡ flag (lt_z (operate Sub x y) (pos 0))
 unfolding operate
 lt_operate x y = ap (λ (t : Bool). flag t) (less_negative (reduced (x -ℤ y)) (lt_z (reduced (x -ℤ y)) (pos 0)) refl)
+
+-- ---- the numbers above eq's are lt's, or no operation's
+pub other_operation : (o : ℕ) → 4 ≤ o → Lt ≡ operation_of o
+unfolding operation_of
+other_operation zero h = absurd (omega arith)
+other_operation (suc zero) h = absurd (omega arith)
+other_operation (suc (suc zero)) h = absurd (omega arith)
+other_operation (suc (suc (suc zero))) h = absurd (omega arith)
+other_operation (suc (suc (suc (suc zero)))) h = refl
+other_operation (suc (suc (suc (suc (suc k))))) h = refl

@@ -1,5 +1,5 @@
 -- Integers of 32 bits (document 01, "Rules of one step": OP). In source document 001 they have no bounds.
-use Rattle.std.specs.Prelude.{ℕ, ◌-◌, ◌%◌, ◌^◌, Bool, true, false, cond, ltb, eqb, ℤ, pos, negsuc, ◌+ℤ◌, ◌-ℤ◌, ◌*ℤ◌}
+use Rattle.std.specs.Prelude.{ℕ, ◌-◌, ◌%◌, ◌^◌, Bool, true, false, cond, ltb, eqb, [], ◌∷◌, get_or, ℤ, pos, negsuc, ◌+ℤ◌, ◌-ℤ◌, ◌*ℤ◌}
 use Rattle.numbers.specs.declared.integers.Operation.{Operation}
 use Rattle.numbers.specs.declared.integers.Operation.TheVariants.{Add, Sub, Mul, Eq, Lt}
 
@@ -37,3 +37,7 @@ operate Sub x y = reduced (x -ℤ y)
 operate Mul x y = reduced (x *ℤ y)
 operate Eq x y = flag (same_integer x y)
 operate Lt x y = flag (negative (reduced (x -ℤ y)))
+
+-- "o: 0 add, 1 sub, 2 mul, 3 eq, 4 lt" (document 01, "Program bytes")
+unfoldable pub operation_of : ℕ → Operation
+operation_of o = get_or (Add ∷ Sub ∷ Mul ∷ Eq ∷ Lt ∷ []) o Lt

@@ -1,6 +1,6 @@
 // Integers of 32 bits: sums, differences and products reduced modulo 2^32, and the tests eq and lt.
 ghost use Rattle.std.specs.Prelude.{◌≡◌};
-ghost use Rattle.numbers.specs.Integers.{reduced, operate};
+ghost use Rattle.numbers.specs.Integers.{reduced, operate, operation_of};
 
 // OP's o, in the order of its numbers 0 to 4.
 #[derive(Clone, Copy)]
@@ -57,6 +57,21 @@ pub fn lt(x: i32, y: i32) -> i32
     ensures { result ≡ operate Operation.Lt x y }
 {
     if sub(x, y) < 0 { 1 } else { 0 }
+}
+
+impl From<u8> for Operation {
+    ghost from_gives = { λ o r. r ≡ operation_of o };
+
+    #[tactic(auto, using(crate::proofs::OperationLaws::other_operation), unfolding(crate::specs::Integers::operation_of))]
+    fn from(o: u8) -> Operation {
+        match o {
+            0 => Operation::Add,
+            1 => Operation::Sub,
+            2 => Operation::Mul,
+            3 => Operation::Eq,
+            _ => Operation::Lt,
+        }
+    }
 }
 
 impl Operation {

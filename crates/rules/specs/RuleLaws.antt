@@ -4,7 +4,7 @@ use Rattle.std.proofs.Math.Path.{refl, ap}
 use Rattle.std.proofs.Common.{◌∙◌, eqb-true}
 use Rattle.std.proofs.Math.Bool.{true, false}
 use Rattle.std.specs.Bool.{beq}
-use Rattle.numbers.specs.Integers.{operate, same_integer}
+use Rattle.numbers.specs.Integers.{operate, operation_of, same_integer}
 use Rattle.parties.specs.Sets.{member, same_set, join, meet, only, make_up, count}
 use Rattle.limits.specs.declared.Party.{Party}
 use Rattle.limits.specs.declared.Name.{Name}
@@ -13,7 +13,6 @@ use Rattle.values.specs.Values.{held, had_by}
 use Rattle.values.specs.declared.value.Value.{Value}
 use Rattle.values.specs.declared.value.Value.TheVariants.{Nothing, Clear, Share}
 use Rattle.values.specs.declared.value.Held.{Held}
-use Rattle.nodes.specs.Nodes.{operation_of}
 use Rattle.nodes.specs.declared.Node.{Node}
 use Rattle.nodes.specs.declared.Node.TheVariants.{VAR, INT, OP, MUX, READ, WRITE, EMBED, SHARE, REVEAL, LET, CASE, PAR, CALL}
 use Rattle.refusals.specs.declared.Refusal.{Refusal}

@@ -4,7 +4,7 @@
 use Rattle.std.specs.Prelude.{Bool, true, false, not, ◌&&◌, cond, List, eqb, ℤ, pos, Option, Some, None}
 use Rattle.std.specs.Bool.{beq}
 use Rattle.std.proofs.Math.Option.{Option as Maybe, none, some}
-use Rattle.numbers.specs.Integers.{operate, same_integer}
+use Rattle.numbers.specs.Integers.{operate, operation_of, same_integer}
 use Rattle.parties.specs.Sets.{member, meet, join, is_empty, same_set, count, only, make_up}
 use Rattle.limits.specs.declared.Party.{Party}
 use Rattle.parties.specs.declared.sets.PartySet.{PartySet}
@@ -12,7 +12,6 @@ use Rattle.values.specs.Values.{held, had_by}
 use Rattle.values.specs.declared.value.Value.{Value}
 use Rattle.values.specs.declared.value.Value.TheVariants.{Nothing, Clear, Share}
 use Rattle.values.specs.declared.value.Held.{Held}
-use Rattle.nodes.specs.Nodes.{operation_of}
 use Rattle.nodes.specs.declared.Node.{Node}
 use Rattle.nodes.specs.declared.Node.TheVariants.{VAR, INT, OP, MUX, READ, WRITE, EMBED, SHARE, REVEAL, LET, CASE, PAR, CALL}
 use Rattle.refusals.specs.declared.Refusal.{Refusal}

@@ -1,11 +1,11 @@
 -- Document 01's worked example: its bytes, and the calls opened, so that they compute. Assumes nothing.
 use Rattle.std.specs.Prelude.{ℕ, List, [], ◌∷◌, ℤ, replicate}
-use Rattle.numbers.specs.Integers.{reduced, operate}
+use Rattle.numbers.specs.Integers.{reduced, operate, operation_of}
 use Rattle.words.specs.Words.{low_first, number_at}
 use Rattle.parties.specs.Sets.{member, meet, join, is_empty, same_set, only, all, within, count_from, count, lowest_from, lowest, make_up}
 use Rattle.parties.specs.declared.sets.PartySet.{PartySet}
 use Rattle.values.specs.Values.{place, moved, restrict, slice, held, had_by}
-use Rattle.nodes.specs.Nodes.{body_length, operation_of, node_of}
+use Rattle.nodes.specs.Nodes.{body_length, node_of}
 use Rattle.nodes.specs.declared.Node.{Node}
 use Rattle.program.specs.Check.{fits, is_good, scan, bad_call, verdict, checked, node_at}
 use Rattle.records.specs.Events.{event_bytes, written, finished, has_room}
