@@ -97,6 +97,7 @@ two_hide m f (Some x) (Some y) = go x.secret y.secret
   where
     over : (s t : Bool) → ℤ → Effect
     over s t n = hide_effect (unless WrongValue (beq s t) (hands_back (had_by m s n)))
+
     go : (s t : Bool) → over s t (f (cond s (pos 0) x.number) (cond t (pos 0) y.number)) ≡ over s t (f x.number y.number)
     go true true = refl
     go true false = refl
@@ -112,6 +113,7 @@ three_hide m f (Some x) (Some y) (Some z) = go x.secret y.secret z.secret
   where
     over : (s t u : Bool) → ℤ → Effect
     over s t u n = hide_effect (unless WrongValue (beq s t && beq s u) (hands_back (had_by m s n)))
+
     go : (s t u : Bool) → over s t u (f (cond s (pos 0) x.number) (cond t (pos 0) y.number) (cond u (pos 0) z.number)) ≡ over s t u (f x.number y.number z.number)
     go true true true = refl
     go true true false = refl

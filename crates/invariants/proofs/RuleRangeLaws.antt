@@ -135,7 +135,7 @@ module _ (m : PartySet) (s : Short m) where
     kind_ranged (VAR x) n = value 0
     kind_ranged (INT i) n = (n, s)
     kind_ranged (OP o x y) n = λ t i j. had_ranged t (operate (operation_of o) i j) (operate_fits (operation_of o) i j)
-    kind_ranged (MUX x y z) n = λ x y z f g h. had_ranged x.secret (mux x.number y.number z.number) (mux_fits x.number y.number z.number (number 1 y g) (number 2 z h))
+    kind_ranged (MUX x y z) n = λ a b c f g h. had_ranged a.secret (mux a.number b.number c.number) (mux_fits a.number b.number c.number (number 1 b g) (number 2 c h))
     kind_ranged READ n = λ one. tt
     kind_ranged (WRITE x) n = λ i h. number 0 _ h
     kind_ranged (EMBED x) n = λ i h. (number 0 _ h, s, s)
