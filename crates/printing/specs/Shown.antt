@@ -39,14 +39,11 @@ pub record Fit (n : ℕ) (records lengths : List ℕ) : Type 0 where
 -- after `refused` no record is shown
 abbrev pub single_fits : Result SingleAnswers.Answer Refused → (n : ℕ) → (records lengths : List ℕ) → Type 0
 single_fits (Err e) n records lengths = Unit
-single_fits (Ok (SingleAnswers.TheVariants.Stopped refusal node steps)) n records lengths = Fit n records lengths
-single_fits (Ok (SingleAnswers.TheVariants.Ended steps)) n records lengths = Fit n records lengths
-single_fits (Ok (SingleAnswers.TheVariants.Budget steps)) n records lengths = Fit n records lengths
+single_fits (Ok ran) n records lengths = Fit n records lengths
 
 abbrev pub joint_fits : Result JointAnswers.Answer Refused → (n : ℕ) → (records lengths : List ℕ) → Type 0
 joint_fits (Err e) n records lengths = Unit
-joint_fits (Ok (JointAnswers.TheVariants.Complete turns)) n records lengths = Fit n records lengths
-joint_fits (Ok (JointAnswers.TheVariants.Open turns)) n records lengths = Fit n records lengths
+joint_fits (Ok ran) n records lengths = Fit n records lengths
 
 -- ---- how long the lines may be
 

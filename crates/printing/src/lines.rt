@@ -1,5 +1,6 @@
 // The lines of what a call leaves: its answer, and each party's record.
 ghost use Rattle.std.specs.Prelude.{◌+◌, ◌*◌, ◌≤◌, ◌++◌, length};
+ghost use Rattle.refusals.specs.Numbers.{number_of};
 ghost use Rattle.text.specs.Text.{Puts};
 ghost use Rattle.printing.specs.Lines.{one_number, two_numbers, party_line, record_lines, single_lines, joint_lines};
 ghost use Rattle.printing.specs.Shown.{Fit, most_of_party, most_of_records, most_of_one, unanswered, single_fits, single_shown, joint_fits, joint_shown};
@@ -24,6 +25,20 @@ fn put_two(word: &[u8], x: u64, y: u64, out: &mut [u8], at: usize) -> usize
     let end = text::plain::put(out, at, word);
     let end_x = text::decimals::put_decimal(out, end, x);
     put_one(b" ", y, out, end_x)
+}
+
+// The line of a refused call: a word, the refusal's number and its place.
+fn put_refused(word: &[u8], refused: Refused, out: &mut [u8], at: usize) -> usize
+    requires { at + (length word.now + 42) ≤ length out.old }
+    ensures { Puts (two_numbers word.now (number_of refused.refusal) refused.place) at result out.old out.new }
+{
+    put_two(
+        word,
+        u8::from(refused.refusal) as u64,
+        refused.place as u64,
+        out,
+        at,
+    )
 }
 
 // A party's line: its number and its record.
@@ -68,6 +83,41 @@ fn put_counted(
     put_records(n, records, lengths, out, end)
 }
 
+// What a single run that was not refused leaves.
+fn put_single_run(
+    ran: single::runs::Answer,
+    n: u8,
+    records: &[u8],
+    lengths: &[usize],
+    out: &mut [u8],
+    at: usize,
+) -> usize
+    requires { Fit n records.now lengths.now × (at + most_of_one ≤ length out.old) }
+    ensures { Puts (single_lines n (single_shown (Ok ran) records.now lengths.now)) at result out.old out.new }
+{
+    match ran {
+        single::runs::Answer::Stopped(refusal, node, _) => {
+            let number = u8::from(refusal);
+            let end = put_two(b"single stopped ", number as u64, node as u64, out, at);
+            put_records(n, records, lengths, out, end)
+        }
+        single::runs::Answer::Ended(steps) => {
+            put_counted(b"single ended ", steps as u64, n, records, lengths, out, at)
+        }
+        single::runs::Answer::Budget(steps) => {
+            put_counted(
+                b"single budget ",
+                steps as u64,
+                n,
+                records,
+                lengths,
+                out,
+                at,
+            )
+        }
+    }
+}
+
 // What the single run leaves.
 pub fn put_single(
     answer: Result<single::runs::Answer, Refused>,
@@ -81,36 +131,38 @@ pub fn put_single(
     ensures { Puts (single_lines n (single_shown answer records.now lengths.now)) at result out.old out.new }
 {
     match answer {
-        Err(refused) => put_two(
-            b"single refused ",
-            u8::from(refused.refusal) as u64,
-            refused.place as u64,
-            out,
-            at,
-        ),
-        Ok(single::runs::Answer::Stopped(refusal, node, _)) => {
-            let number = u8::from(refusal);
-            let end = put_two(b"single stopped ", number as u64, node as u64, out, at);
-            put_records(n, records, lengths, out, end)
+        Ok(ran) => put_single_run(ran, n, records, lengths, out, at),
+        Err(refused) => put_refused(b"single refused ", refused, out, at),
+    }
+}
+
+// What a joint run that was not refused leaves.
+fn put_joint_run(
+    ran: joint::runs::Answer,
+    n: u8,
+    records: &[u8],
+    lengths: &[usize],
+    out: &mut [u8],
+    at: usize,
+) -> usize
+    requires { Fit n records.now lengths.now × (at + most_of_one ≤ length out.old) }
+    ensures { Puts (joint_lines n (joint_shown (Ok ran) records.now lengths.now)) at result out.old out.new }
+{
+    match ran {
+        joint::runs::Answer::Complete(turns) => {
+            put_counted(
+                b"joint complete ",
+                turns as u64,
+                n,
+                records,
+                lengths,
+                out,
+                at,
+            )
         }
-        Ok(single::runs::Answer::Ended(steps)) => put_counted(
-            b"single ended ",
-            steps as u64,
-            n,
-            records,
-            lengths,
-            out,
-            at,
-        ),
-        Ok(single::runs::Answer::Budget(steps)) => put_counted(
-            b"single budget ",
-            steps as u64,
-            n,
-            records,
-            lengths,
-            out,
-            at,
-        ),
+        joint::runs::Answer::Open(turns) => {
+            put_counted(b"joint open ", turns as u64, n, records, lengths, out, at)
+        }
     }
 }
 
@@ -127,30 +179,7 @@ pub fn put_joint(
     ensures { Puts (joint_lines n (joint_shown answer records.now lengths.now)) at result out.old out.new }
 {
     match answer {
-        Err(refused) => put_two(
-            b"joint refused ",
-            u8::from(refused.refusal) as u64,
-            refused.place as u64,
-            out,
-            at,
-        ),
-        Ok(joint::runs::Answer::Complete(turns)) => put_counted(
-            b"joint complete ",
-            turns as u64,
-            n,
-            records,
-            lengths,
-            out,
-            at,
-        ),
-        Ok(joint::runs::Answer::Open(turns)) => put_counted(
-            b"joint open ",
-            turns as u64,
-            n,
-            records,
-            lengths,
-            out,
-            at,
-        ),
+        Ok(ran) => put_joint_run(ran, n, records, lengths, out, at),
+        Err(refused) => put_refused(b"joint refused ", refused, out, at),
     }
 }

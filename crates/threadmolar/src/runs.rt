@@ -12,17 +12,20 @@ fn tell_single(answer: Result<single::runs::Answer, Refused>, steps: &mut u32) -
     requires { SingleFits (told_single answer) }
     ensures { SingleTold (told_single answer) result steps.old steps.new }
 {
-    match answer {
-        Err(refused) => numbered(refused.refusal, refused.place as u16),
-        Ok(single::runs::Answer::Stopped(refusal, node, taken)) => {
+    let ran = match answer {
+        Ok(ran) => ran,
+        Err(refused) => return numbered(refused.refusal, refused.place as u16),
+    };
+    match ran {
+        single::runs::Answer::Stopped(refusal, node, taken) => {
             *steps = taken;
             numbered(refusal, node)
         }
-        Ok(single::runs::Answer::Ended(taken)) => {
+        single::runs::Answer::Ended(taken) => {
             *steps = taken;
             ENDED
         }
-        Ok(single::runs::Answer::Budget(taken)) => {
+        single::runs::Answer::Budget(taken) => {
             *steps = taken;
             BUDGET
         }
@@ -51,13 +54,16 @@ fn tell_joint(answer: Result<joint::runs::Answer, Refused>, taken: &mut u32) -> 
     requires { JointFits (told_joint answer) }
     ensures { JointTold (told_joint answer) result taken.old taken.new }
 {
-    match answer {
-        Err(refused) => numbered(refused.refusal, refused.place as u16),
-        Ok(joint::runs::Answer::Complete(turns)) => {
+    let ran = match answer {
+        Ok(ran) => ran,
+        Err(refused) => return numbered(refused.refusal, refused.place as u16),
+    };
+    match ran {
+        joint::runs::Answer::Complete(turns) => {
             *taken = turns;
             COMPLETE
         }
-        Ok(joint::runs::Answer::Open(turns)) => {
+        joint::runs::Answer::Open(turns) => {
             *taken = turns;
             OPEN
         }

@@ -19,14 +19,14 @@ unfolding joint_call joint_of
 returns-then-lengths-parties c = let a = c.args in
     let p = c.requires in
     let L : Lent = lent a.program.now a.counts.now a.inputs.now a.bytes.now a.lengths.now a.work.now in
-    call_short (joint_of L a.turns.now) L a.n a.nodes p.0 (fit_whole a.n L p.1 p.2) p.3 (short_places a.n a.n L (omega arith) c.if-lengths-parties.true)
+    rw c.at-then-lengths-parties.ensures (call_short (joint_of L a.turns.now) L a.n a.nodes p.0 (fit_whole a.n L p.1 p.2) p.3 (short_places a.n a.n L (omega arith) c.if-lengths-parties.true))
 
 pub returns-then-work-parties : goal.returns-then-work-parties
 unfolding joint_call joint_of
 returns-then-work-parties c = let a = c.args in
     let p = c.requires in
     let L : Lent = lent a.program.now a.counts.now a.inputs.now a.bytes.now a.lengths.now a.work.now in
-    call_short (joint_of L a.turns.now) L a.n a.nodes p.0 (fit_whole a.n L p.1 p.2) p.3 (short_work a.n a.n L (omega arith) c.if-lengths-parties.false c.if-work-parties.true)
+    rw c.at-then-work-parties.ensures (call_short (joint_of L a.turns.now) L a.n a.nodes p.0 (fit_whole a.n L p.1 p.2) p.3 (short_work a.n a.n L (omega arith) c.if-lengths-parties.false c.if-work-parties.true))
 
 pub drive-answer-requires : goal.drive-answer-requires
 drive-answer-requires c = let p = c.requires in

@@ -1,5 +1,6 @@
 -- `single::runs::run` meets its contract. Assumes nothing.
 use mathlib.Core.Path.{sym, ap, ◌∙◌}
+use Rattle.std.proofs.lemmas.Result.{err_from_is_err_and}
 use Rattle.program.specs.Answer.{told}
 use Rattle.rules.specs.Lent.{Lent}
 use Rattle.rules.specs.Calls.{single_of, single_call}
@@ -13,4 +14,5 @@ pub returns-in_err-good : goal.returns-in_err-good
 unfolding single_call single_of
 returns-in_err-good c = let a = c.args in
     let L : Lent = lent a.program.now a.counts.now a.inputs.now a.bytes.now a.lengths.now a.work.now in
-    call_bad (single_of L a.budget) L _ (sym c.check.ensures ∙ ap told c.in_err-good.was)
+    let p = err_from_is_err_and c.from_residual.result c.from_residual.ensures.1 in
+    rw (p.1, p.2) (call_bad (single_of L a.budget) L _ (sym c.check.ensures ∙ ap told c.in_err-good.was))

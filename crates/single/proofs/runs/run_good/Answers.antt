@@ -21,13 +21,13 @@ pub returns-then-lengths-parties : goal.returns-then-lengths-parties
 unfolding single_call single_of
 returns-then-lengths-parties c = let a = c.args in
     let L : Lent = lent a.program.now a.counts.now a.inputs.now a.bytes.now a.lengths.now a.work.now in
-    call_short (single_of L a.budget) L a.n a.nodes c.requires (sym (counts_fit_is a.n L) ∙ sym c.counts_fit.ensures ∙ c.if-counts_fit.true) refl (short_places a.n 1 L (omega arith) c.if-lengths-parties.true)
+    rw c.at-then-lengths-parties.ensures (call_short (single_of L a.budget) L a.n a.nodes c.requires (sym (counts_fit_is a.n L) ∙ sym c.counts_fit.ensures ∙ c.if-counts_fit.true) refl (short_places a.n 1 L (omega arith) c.if-lengths-parties.true))
 
 pub returns-then-work-lt-AREA : goal.returns-then-work-lt-AREA
 unfolding single_call single_of
 returns-then-work-lt-AREA c = let a = c.args in
     let L : Lent = lent a.program.now a.counts.now a.inputs.now a.bytes.now a.lengths.now a.work.now in
-    call_short (single_of L a.budget) L a.n a.nodes c.requires (sym (counts_fit_is a.n L) ∙ sym c.counts_fit.ensures ∙ c.if-counts_fit.true) refl (short_work a.n 1 L (omega arith) c.if-lengths-parties.false c.if-work-lt-AREA.true)
+    rw c.at-then-work-lt-AREA.ensures (call_short (single_of L a.budget) L a.n a.nodes c.requires (sym (counts_fit_is a.n L) ∙ sym c.counts_fit.ensures ∙ c.if-counts_fit.true) refl (short_work a.n 1 L (omega arith) c.if-lengths-parties.false c.if-work-lt-AREA.true))
 
 pub slice_bounds-drive-end : goal.slice_bounds-drive-end
 slice_bounds-drive-end c = omega (arith, c.if-work-lt-AREA.false)
@@ -52,4 +52,4 @@ pub returns : goal.returns
 unfolding single_call single_of
 returns c = let a = c.args in
     let L : Lent = lent a.program.now a.counts.now a.inputs.now a.bytes.now a.lengths.now a.work.now in
-    call_counts (single_of L a.budget) L a.n a.nodes c.requires (sym (counts_fit_is a.n L) ∙ sym c.counts_fit.ensures ∙ c.if-counts_fit.false)
+    rw c.at-2.ensures (call_counts (single_of L a.budget) L a.n a.nodes c.requires (sym (counts_fit_is a.n L) ∙ sym c.counts_fit.ensures ∙ c.if-counts_fit.false))

@@ -6,8 +6,8 @@ use Rattle.threadmolar.specs.Checks.{check_number, parties_left, nodes_left}
 use Rattle.threadmolar.proofs.AnswerLaws.{check_fits}
 use Rattle.threadmolar.proofs.check.threadmolar_check.Goals as goal
 
-pub overflow_cast-place : goal.overflow_cast-place
-overflow_cast-place c = omega (arith, check_fits _ _ _ (ap told (sym c.in-Err.is) ∙ c.check.ensures))
+pub overflow_cast-bad : goal.overflow_cast-bad
+overflow_cast-bad c = omega (arith, check_fits _ _ _ (ap told (sym c.in-Err.is) ∙ c.check.ensures))
 
 pub returns-in-Err : goal.returns-in-Err
 unfolding check_number parties_left nodes_left

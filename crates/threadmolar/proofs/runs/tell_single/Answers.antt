@@ -4,21 +4,21 @@ use native.Mathlib.Omega.{arith}
 use Rattle.threadmolar.specs.Runs.{single_number, steps_left}
 use Rattle.threadmolar.proofs.runs.tell_single.Goals as goal
 
-pub overflow_cast-place : goal.overflow_cast-place
-overflow_cast-place c = let h = rw c.in-Err.is at c.requires in omega arith
+pub overflow_cast-refused : goal.overflow_cast-refused
+overflow_cast-refused c = let h = rw c.in-Err.is at c.requires in omega arith
 
 pub returns-in-Err : goal.returns-in-Err
 unfolding single_number steps_left
 returns-in-Err c = rw c.in-Err.is (record { number_is = c.numbered.ensures; count_is = refl })
 
-pub returns-in-Ok-Stopped : goal.returns-in-Ok-Stopped
+pub returns-in-Stopped : goal.returns-in-Stopped
 unfolding single_number steps_left
-returns-in-Ok-Stopped c = rw c.in-Ok-Stopped.is (record { number_is = c.numbered-in-Ok-Stopped.ensures; count_is = refl })
+returns-in-Stopped c = rw (c.in-Ok.is, c.in-Stopped.is) (record { number_is = c.numbered-in-Stopped.ensures; count_is = refl })
 
-pub returns-in-Ok-Ended : goal.returns-in-Ok-Ended
+pub returns-in-Ended : goal.returns-in-Ended
 unfolding single_number steps_left
-returns-in-Ok-Ended c = rw c.in-Ok-Ended.is (record { number_is = refl; count_is = refl })
+returns-in-Ended c = rw (c.in-Ok.is, c.in-Ended.is) (record { number_is = refl; count_is = refl })
 
-pub returns-in-Ok-Budget : goal.returns-in-Ok-Budget
+pub returns-in-Budget : goal.returns-in-Budget
 unfolding single_number steps_left
-returns-in-Ok-Budget c = rw c.in-Ok-Budget.is (record { number_is = refl; count_is = refl })
+returns-in-Budget c = rw (c.in-Ok.is, c.in-Budget.is) (record { number_is = refl; count_is = refl })
