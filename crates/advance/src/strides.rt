@@ -114,6 +114,7 @@ pub fn strides(
     let depth = start.depth;
     let mut t = Stand { node, mode, depth };
     let mut k: u32 = 0;
+    // the last turn returns, so that after a `for` there would be nothing to answer
     loop {
         let p = whose(joint, turns, first + k as usize);
         let from = p as usize * ROW;

@@ -1,4 +1,5 @@
-// The counts and the inputs, read into lent lists: each place of the list is filled.
+// The counts and the inputs, read into lent lists: each place of the list is filled. One function over how a place is read would need
+// the contract of a closure, which is longer than the two loops.
 ghost use Rattle.std.specs.Prelude.{◌≡◌, ◌+◌, ◌*◌, ◌≤◌, length};
 ghost use Rattle.cases.specs.Rows.{numbers_at, integers_at};
 

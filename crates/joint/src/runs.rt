@@ -56,6 +56,7 @@ fn run_turns(
     };
     let mut count: u32 = 0;
     let mut j = 0;
+    // by strides, of several turns
     while j < turns.len() {
         let most = (turns.len() - j) as u32;
         let strode = strides(true, turns, j, program, nodes, nowhere, most, work);
@@ -182,6 +183,14 @@ pub fn run(
 {
     let good = program::check::check(program)?;
     run_good(
-        program, good.parties, good.nodes, counts, inputs, turns, bytes, lengths, work,
+        program,
+        good.parties,
+        good.nodes,
+        counts,
+        inputs,
+        turns,
+        bytes,
+        lengths,
+        work,
     )
 }

@@ -36,6 +36,7 @@ pub fn put_walk(bytes: &[u8], out: &mut [u8], at: usize) -> usize
 {
     let mut to = text::plain::put(out, at, b"walk");
     let mut start: usize = 0;
+    // by events, of several lengths
     loop {
         match reader::event_at(bytes, start) {
             Step::Event(_, next) => {

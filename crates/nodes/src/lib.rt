@@ -14,7 +14,7 @@ use parties::sets::PartySet;
 pub enum Node {
     VAR(Name),
     INT(i32),
-    // o, x, y
+    // o, x, y; o is the byte as it stands, which the check has to test
     OP(u8, Name, Name),
     MUX(Name, Name, Name),
     READ,

@@ -52,7 +52,7 @@ impl PartySet {
         u16::count_ones(self.bits)
     }
 
-    // The lowest party in the set; 16 where there is none.
+    // The lowest party in the set; 16 where there is none, as the definition `lowest` has it. `members` gives an Option.
     pub fn lowest(self) -> u8
         ensures { result ≡ lowest self }
     {

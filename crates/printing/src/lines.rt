@@ -1,4 +1,5 @@
-// The lines of what a call leaves: its answer, and each party's record.
+// The lines of what a call leaves: its answer, and each party's record. The two runs come out in different ways, and a trait over
+// both would be longer than an arm for each.
 ghost use Rattle.std.specs.Prelude.{◌+◌, ◌*◌, ◌≤◌, ◌++◌, length};
 ghost use Rattle.refusals.specs.Numbers.{number_of};
 ghost use Rattle.text.specs.Text.{Puts};

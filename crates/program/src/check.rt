@@ -103,6 +103,7 @@ fn lost_call(program: &[u8], n: u8, nodes: usize) -> usize
 {
     let mut at = 2;
     let mut own = 0;
+    // by records, of several lengths
     while at < program.len() {
         let Some(Found { next, reach }) = record_at(program, n, own, at) else {
             return at;
@@ -125,6 +126,7 @@ pub fn check(program: &[u8]) -> Result<Good, BadRecord>
     let mut at = 2;
     let mut own = 0;
     let mut reach = 0;
+    // by records, of several lengths
     while at < program.len() {
         let Some(found) = record_at(program, parties, own, at) else {
             return Err(BadRecord { place: at });

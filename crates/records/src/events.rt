@@ -22,7 +22,7 @@ pub enum Event {
     Passed(PartySet),
     // tag, integer, l, h
     Finished(u8, i32, PartySet, PartySet),
-    // refusal, node
+    // refusal, node; a number, since a walk finds any byte there
     Stopped(u8, u16),
 }
 

@@ -9,7 +9,7 @@ ghost use Rattle.rehearsal.specs.Spaces.{Filled, Holds, Exact, Rows, PutsAtMost}
 use cases::layout::Layout;
 use cases::lending::Lending;
 
-// The parties of a good program, or 0.
+// The parties of a good program, or 0, as the printed lines' definitions have it.
 fn parties_of(program: &[u8]) -> u8
     ensures { result ≡ parties_of (check_answer program.now) }
 {

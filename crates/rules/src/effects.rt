@@ -34,7 +34,7 @@ pub enum Meeting {
     Revealing(PartySet),
 }
 
-// What one brings to a meeting.
+// What one brings to a meeting. Not an Option: it stands in one, where None says that a member is away.
 #[derive(Clone, Copy)]
 pub enum Offer {
     Empty,

@@ -44,6 +44,7 @@ fn run_on(
 {
     let mut t = start;
     let mut k: u32 = 0;
+    // by strides, of several steps
     while k < budget {
         let stride = single_step::step(
             program,
@@ -169,6 +170,14 @@ pub fn run(
 {
     let good = program::check::check(program)?;
     run_good(
-        program, good.parties, good.nodes, counts, inputs, budget, bytes, lengths, work,
+        program,
+        good.parties,
+        good.nodes,
+        counts,
+        inputs,
+        budget,
+        bytes,
+        lengths,
+        work,
     )
 }

@@ -23,6 +23,7 @@ pub fn read_full<R: Read>(reader: &mut R, buf: &mut [u8]) -> io::Result<usize>
     ensures ended { IfOk result (λ n. n < length buf.new → IsAtEnd (R.remaining reader.new)) }
 {
     let mut done = 0;
+    // by what each read gives
     while done < buf.len() {
         let n = reader.read(&mut buf[done..])?;
         if n == 0 {

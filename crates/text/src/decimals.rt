@@ -10,6 +10,7 @@ pub fn put_decimal(out: &mut [u8], at: usize, n: u64) -> usize
     let mut digits = [0u8; 20];
     let mut first: usize = 19;
     let mut left = n;
+    // as many as there are
     while 9 < left {
         digits[first] = b'0' + (left % 10) as u8;
         left = left / 10;

@@ -70,6 +70,7 @@ fn skip_some<R: Read>(bytes: usize, space: &mut [u8], reader: &mut R) -> io::Res
 
 fn skip<R: Read>(bytes: usize, space: &mut [u8], reader: &mut R) -> io::Result<()> {
     let mut left = bytes;
+    // by what was read
     while left > 0 {
         let some = skip_some(left, space, reader)?;
         if some == 0 {

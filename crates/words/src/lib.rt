@@ -20,6 +20,7 @@ pub fn signed(b: u32) -> i32
     b.cast_signed()
 }
 
+// The loads and the stores are one call of the library each; a trait over the sizes would be longer than they are.
 #[tactic(auto, unfolding(crate::specs::Words::number_at))]
 pub fn load2(s: &[u8], at: usize) -> u16
     requires { at + 2 ≤ length s.now }
