@@ -1,9 +1,6 @@
 // The answers that are no refusal. Below 64 an answer is a refusal's number.
 ghost use Rattle.std.specs.Prelude.{◌≡◌};
-ghost use Rattle.refusals.specs.Numbers.{number_of};
 ghost use Rattle.threadmolar.specs.Answers.{numbered};
-
-use refusals::Refusal;
 
 pub const GOOD: u32 = 64;
 
@@ -28,8 +25,8 @@ pub const EQUAL: u32 = 73;
 pub const NEITHER: u32 = 74;
 
 // A refusal and its place, or a stop and its node, in one number.
-pub fn numbered(refusal: Refusal, place: u16) -> u32
-    ensures { result ≡ numbered (number_of refusal) place }
+pub fn numbered(number: u8, place: u16) -> u32
+    ensures { result ≡ numbered number place }
 {
-    u8::from(refusal) as u32 + 256 * (place as u32)
+    number as u32 + 256 * (place as u32)
 }

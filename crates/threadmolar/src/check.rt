@@ -10,7 +10,7 @@ pub extern "C" fn threadmolar_check(program: &[u8], parties: &mut u8, nodes: &mu
     ensures { Checks (check_answer program.now) result parties.old nodes.old parties.new nodes.new }
 {
     match program::check::check(program) {
-        Err(bad) => numbered(Refusal::BadProgram, bad.place as u16),
+        Err(bad) => numbered(u8::from(Refusal::BadProgram), bad.place as u16),
         Ok(good) => {
             *parties = good.parties;
             *nodes = good.nodes as usize;

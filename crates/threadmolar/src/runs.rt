@@ -14,12 +14,12 @@ fn tell_single(answer: Result<single::runs::Answer, Refused>, steps: &mut u32) -
 {
     let ran = match answer {
         Ok(ran) => ran,
-        Err(refused) => return numbered(refused.refusal, refused.place as u16),
+        Err(refused) => return numbered(u8::from(refused.refusal), refused.place as u16),
     };
     match ran {
         single::runs::Answer::Stopped(refusal, node, taken) => {
             *steps = taken;
-            numbered(refusal, node)
+            numbered(u8::from(refusal), node)
         }
         single::runs::Answer::Ended(taken) => {
             *steps = taken;
@@ -56,7 +56,7 @@ fn tell_joint(answer: Result<joint::runs::Answer, Refused>, taken: &mut u32) -> 
 {
     let ran = match answer {
         Ok(ran) => ran,
-        Err(refused) => return numbered(refused.refusal, refused.place as u16),
+        Err(refused) => return numbered(u8::from(refused.refusal), refused.place as u16),
     };
     match ran {
         joint::runs::Answer::Complete(turns) => {

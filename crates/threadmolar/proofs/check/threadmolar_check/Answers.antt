@@ -11,7 +11,7 @@ overflow_cast-bad c = omega (arith, check_fits _ _ _ (ap told (sym c.in-Err.is) 
 
 pub returns-in-Err : goal.returns-in-Err
 unfolding check_number parties_left nodes_left
-returns-in-Err c = rw (← c.check.ensures, c.in-Err.is) (record { number = c.numbered.ensures; parties = refl; nodes = refl })
+returns-in-Err c = rw (← c.check.ensures, c.in-Err.is) (record { number = rw c.from.ensures at c.numbered.ensures; parties = refl; nodes = refl })
 
 pub returns-in-Ok : goal.returns-in-Ok
 unfolding check_number parties_left nodes_left

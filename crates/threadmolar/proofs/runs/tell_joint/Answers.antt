@@ -9,7 +9,7 @@ overflow_cast-refused c = let h = rw c.in-Err.is at c.requires in omega arith
 
 pub returns-in-Err : goal.returns-in-Err
 unfolding joint_number taken_left
-returns-in-Err c = rw c.in-Err.is (record { number_is = c.numbered.ensures; count_is = refl })
+returns-in-Err c = rw c.in-Err.is (record { number_is = rw c.from.ensures at c.numbered.ensures; count_is = refl })
 
 pub returns-in-Complete : goal.returns-in-Complete
 unfolding joint_number taken_left

@@ -9,11 +9,11 @@ overflow_cast-refused c = let h = rw c.in-Err.is at c.requires in omega arith
 
 pub returns-in-Err : goal.returns-in-Err
 unfolding single_number steps_left
-returns-in-Err c = rw c.in-Err.is (record { number_is = c.numbered.ensures; count_is = refl })
+returns-in-Err c = rw c.in-Err.is (record { number_is = rw c.from.ensures at c.numbered.ensures; count_is = refl })
 
 pub returns-in-Stopped : goal.returns-in-Stopped
 unfolding single_number steps_left
-returns-in-Stopped c = rw (c.in-Ok.is, c.in-Stopped.is) (record { number_is = c.numbered-in-Stopped.ensures; count_is = refl })
+returns-in-Stopped c = rw (c.in-Ok.is, c.in-Stopped.is) (record { number_is = rw c.from-in-Stopped.ensures at c.numbered-in-Stopped.ensures; count_is = refl })
 
 pub returns-in-Ended : goal.returns-in-Ended
 unfolding single_number steps_left
