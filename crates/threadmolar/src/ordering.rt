@@ -6,6 +6,7 @@ ghost use Rattle.threadmolar.specs.Orders.{order_number, Continues};
 use crate::answers::{EQUAL, FIRST_LONGER, NEITHER, SECOND_LONGER};
 use order::Order;
 
+// Its number in the C interface.
 fn number_of(order: Order) -> u32
     ensures { result ≡ order_number order }
 {

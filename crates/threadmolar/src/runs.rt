@@ -7,7 +7,8 @@ ghost use Rattle.threadmolar.specs.Runs.{SingleFits, SingleTold, SingleRuns, Joi
 use crate::answers::{BUDGET, COMPLETE, ENDED, OPEN, numbered};
 use refusals::Refused;
 
-// The number of the single run's answer, with the steps put in their place.
+// The number of the single run's answer, with the steps put in their place. The joint run comes out in other ways: a trait over both
+// would be longer than the two functions.
 fn tell_single(answer: Result<single::runs::Answer, Refused>, steps: &mut u32) -> u32
     requires { SingleFits (told_single answer) }
     ensures { SingleTold (told_single answer) result steps.old steps.new }
