@@ -68,7 +68,6 @@ fn keep(joint: bool, t: Stand, w: &mut [u8])
 }
 
 // A turn in its own row: a step, if the site is not over. Where it led on, where control now stands is kept.
-#[tactic(auto, using(crate::proofs::StrideLaws::running_few))]
 fn in_row(joint: bool, t: Stand, p: u8, program: &[u8], nodes: usize, w: &mut [u8]) -> Option<Did>
     requires { (row_size ≤ length w.old) × (nodes ≤ 1024) }
     ensures { InRow joint p program.now nodes t result w.old w.new }
