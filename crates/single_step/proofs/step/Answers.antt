@@ -12,19 +12,12 @@ use Rattle.single_step.proofs.PerformLaws.{goes, enters, steps_on}
 use Rattle.single_step.proofs.EffectLaws.{no_move}
 use Rattle.single_step.proofs.step.Goals as goal
 
-pub effect_of-effect-requires : goal.effect_of-effect-requires
-effect_of-effect-requires c = omega (arith, c.requires.4, c.work-1.given)
-
 pub entry_of-entry-requires : goal.entry_of-entry-requires
 entry_of-entry-requires c = let p = c.requires in
     let f = c.far-gone in
     let m = f.result.stand.mode in
     let r = c.effect_of-effect.ensures.asks f.ensures.1 f.ensures.3 (no_move f.result.came (opened c.in_default.in_default-own.keys2)) in
     (p.5, p.6, subst (λ (x : Effect). Sound m x) (sym r.0) (whole_sound m _ _), r.1)
-
-pub settled-came-requires : goal.settled-came-requires
-settled-came-requires c = let p = c.requires in
-    (p.1, p.2, p.3, omega (arith, p.4, c.work-1.given))
 
 pub returns-in_default : goal.returns-in_default
 returns-in_default c = let a = c.args in
