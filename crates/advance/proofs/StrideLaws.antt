@@ -13,7 +13,7 @@ use Rattle.area.specs.declared.stand.Stand.{Stand}
 use Rattle.area.specs.declared.stand.Next.TheVariants.{On, Ends, Full}
 use Rattle.seats.specs.declared.Seat.TheVariants.{Running}
 use Rattle.advance.specs.Advances.{Advances, Moves, GoesFar}
-use Rattle.advance.specs.Strides.{whose, view_of, RowsFit, seat_of, onward, leads, Kept, StepsInRow, InRow, LeadsOn, AmongRows, Led, StridesTo}
+use Rattle.advance.specs.Strides.{whose, view_of, RowsFit, onward, leads, Kept, StepsInRow, InRow, LeadsOn, AmongRows, Led, StridesTo}
 use Rattle.advance.specs.declared.Advanced.{Advanced}
 use Rattle.advance.specs.declared.Advanced.TheVariants.{Moved, Asks, Joins}
 use Rattle.advance.specs.declared.strides.Did.{Did}

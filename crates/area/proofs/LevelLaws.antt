@@ -10,7 +10,6 @@ use lib.Seq.{sets, take-set-le}
 use Rattle.words.specs.Words.{number_at}
 use Rattle.words.proofs.WordLaws.{number_same}
 use Rattle.limits.specs.Limits.{max_names}
-use Rattle.parties.specs.declared.sets.PartySet.{PartySet}
 use Rattle.cells.specs.Cells.{width, cell_at}
 use Rattle.rules.specs.Names.{none_bound}
 use Rattle.rules.specs.Moves.{Frame}

@@ -1,12 +1,10 @@
 -- A seat kept behind the levels: it is read back, and the levels and the table of places stay. Assumes nothing.
 use mathlib.Core.Path.{◌≡◌, refl, ap, ◌∙◌}
-use mathlib.Core.Bool.{Bool, true, false, cond}
 use mathlib.Core.List.{List, [], ◌∷◌, ◌++◌}
 use Prim.Native.Nat.{ℕ, ◌+◌, ◌^◌, ◌≤◌, ◌<◌}
 use native.Mathlib.Nat.{add-zero}
 use native.Mathlib.Omega.{arith}
-use borrow.Author.Tests.{le-leb, leb-true, ne_eqb}
-use lib.Dec.{eqb, leb}
+use borrow.Author.Tests.{ne_eqb}
 use lib.ListN.{length, get_or, set}
 use lib.Seq.{sets}
 use Rattle.words.specs.Words.{low_first, number_at}
@@ -21,7 +19,7 @@ use Rattle.limits.specs.declared.Depth.{Depth}
 use Rattle.std.proofs.Common.{Some, None}
 use Rattle.area.specs.Rows.{row_size}
 use Rattle.area.specs.Levels.{control_of}
-use Rattle.seats.specs.Seats.{seat_place, running_at, seat_at, Saves}
+use Rattle.seats.specs.Seats.{seat_place, seat_at, Saves}
 use Rattle.area.specs.declared.stand.Stand.{Stand}
 use Rattle.seats.specs.declared.Seat.TheVariants.{Running, Finished, Stopped}
 use Rattle.area.proofs.LevelLaws.{control_same, table_sets}

@@ -1,8 +1,6 @@
 -- `single_step::step` meets its contract. Assumes nothing.
 use borrow.Enum.Refused.{opened}
 use mathlib.Core.Path.{refl, sym, subst}
-use native.Mathlib.Omega.{arith}
-use Rattle.rules.specs.declared.effects.View.TheVariants.{Whole}
 use Rattle.rules.specs.declared.effects.Effect.{Effect}
 use Rattle.rules.specs.declared.effects.Effect.TheVariants.{Goes}
 use Rattle.rules.specs.RunLaws.{Sound, whole_sound}
