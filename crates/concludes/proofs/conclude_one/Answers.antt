@@ -2,7 +2,7 @@
 use borrow.Enum.Refused.{opened}
 use mathlib.Core.Path.{◌∙◌}
 use native.Mathlib.Omega.{arith}
-use Rattle.area.specs.Rows.{row_size, area_of}
+use Rattle.area.specs.Rows.{row_size}
 use Rattle.area.proofs.RowLaws.{row_length}
 use Rattle.concludes.proofs.ConcludeLaws.{member_over, member_runs}
 use Rattle.concludes.proofs.conclude_one.Goals as goal
