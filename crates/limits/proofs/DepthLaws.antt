@@ -1,5 +1,5 @@
--- The count of frames: it is made where it is within its limit, and two counts of as many frames are one. Assumes nothing.
-use mathlib.Core.Path.{◌≡◌, refl, sym, ap, subst, ◌∙◌}
+-- The count of frames: it is made where it is within its limit, and not elsewhere. Assumes nothing.
+use mathlib.Core.Path.{◌≡◌, refl, sym, ap, ◌∙◌}
 use Prim.Native.Nat.{ℕ, ◌+◌, ◌≤◌, ◌<◌}
 use native.Mathlib.Bridge.{le_prop}
 use native.Mathlib.Decide.{dec_le, dec_lt}
@@ -25,9 +25,6 @@ depth_not_made k h = go (dec_le k max_frames)
     go : (d : Dec (k ≤ max_frames)) → depth_if k d ≡ None
     go (yes i) = absurd (omega arith)
     go (no f) = refl
-
-pub depth_same : (d : Depth) (k : ℕ) (h : k ≤ max_frames) → k ≡ d.frames → record { frames = k; within = h } ≡ d
-depth_same d k h e = subst (λ (n : ℕ). (i : n ≤ max_frames) → record { frames = n; within = i } ≡ d) (sym e) (λ i. within_same d.frames i d.within) h
 
 pub deeper_made : (d e : Depth) → deeper_than d ≡ Some e → (d.frames < max_frames) × (e.frames ≡ d.frames + 1)
 deeper_made d e m =
