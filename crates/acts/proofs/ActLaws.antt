@@ -71,11 +71,11 @@ module _ (e : Event) (u : ℕ) (xs : List ℕ) (u' : ℕ) (xs' w w' : List ℕ) 
 
 module _ (u : ℕ) (xs : List ℕ) (u' : ℕ) (xs' w w' : List ℕ) where
   pub stops : (r e : ℕ) → Saves Stopped w w' → Closes (Event'.Stopped r e) u xs u' xs' → Takes (stop r e) u xs w u' xs' w'
-  stops r e s c = closes (Event'.Stopped r e) u xs u' xs' w w' false Stopped c s (s.seat tt) (λ b. refl)
+  stops r e s c = closes (Event'.Stopped r e) u xs u' xs' w w' false Stopped c s s.seat (λ b. refl)
 
   pub finishes : (v : Value) (E : Event) → E ≡ finished v → Saves Finished w w' → Closes E u xs u' xs' → Takes (finish v) u xs w u' xs' w'
   finishes v E q s c =
-      subst (λ (x : Event). Takes (λ b. over true (add x b)) u xs w u' xs' w') q (closes E u xs u' xs' w w' true Finished c s (s.seat tt) (λ b. refl))
+      subst (λ (x : Event). Takes (λ b. over true (add x b)) u xs w u' xs' w') q (closes E u xs u' xs' w w' true Finished c s s.seat (λ b. refl))
 
 -- ---- where a move has led
 module _ (e u : ℕ) (xs w : List ℕ) where
@@ -84,14 +84,14 @@ module _ (e u : ℕ) (xs w : List ℕ) where
   lands_on next t w' q s =
       rw q
       record {
-        lands = λ deep. record {
+        lands = record {
           took = λ b o h. record {
             more = [];
             bytes = refl;
             count = sym (add-zero u);
             grown = sym (append-nil (written b.events));
             fits = rw o h;
-            stands = rw (s.seat deep, s.levels t deep);
+            stands = rw (s.seat, s.levels t);
           };
           table = s.table;
         };
@@ -99,17 +99,17 @@ module _ (e u : ℕ) (xs w : List ℕ) where
 
   pub lands_end : (next : Next) (v : Value) (u' : ℕ) (xs' w' : List ℕ) → next ≡ Ends v → Takes (finish v) u xs w u' xs' w' → Lands next e u xs w u' xs' w'
   unfolding land next_of
-  lands_end next v u' xs' w' q t = rw q (record { lands = λ deep. t })
+  lands_end next v u' xs' w' q t = rw q (record { lands = t })
 
   pub lands_full : (next : Next) (u' : ℕ) (xs' w' : List ℕ) → next ≡ Full → Takes (stop too_deep e) u xs w u' xs' w' → Lands next e u xs w u' xs' w'
   unfolding land next_of
-  lands_full next u' xs' w' q t = rw q (record { lands = λ deep. t })
+  lands_full next u' xs' w' q t = rw q (record { lands = t })
 
 -- a move, and where it led
 pub moves : (mv : Move) (t : Stand) (u : ℕ) (xs w w1 : List ℕ) (next : Next) (u' : ℕ) (xs' w' : List ℕ)
     → Levels.Goes next (move mv (control_of t w)) w w1 → Lands next t.node u xs w1 u' xs' w' → Takes (land t.node (move mv (control_of t w))) u xs w u' xs' w'
 moves mv t u xs w w1 next u' xs' w' g l =
-    let s : Takes (land t.node (next_of next w1)) u xs w1 u' xs' w' = l.lands g.deep in
+    let s : Takes (land t.node (next_of next w1)) u xs w1 u' xs' w' = l.lands in
     rw (← g.gives) (record { took = s.took; table = s.table ∙ g.table })
 
 -- a step by which control just moved, and where it led

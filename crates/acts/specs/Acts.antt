@@ -12,7 +12,7 @@ use Rattle.rules.specs.declared.effects.Move.{Move}
 use Rattle.rules.specs.declared.effects.Effect.{Effect}
 use Rattle.invariants.specs.Room.{Fits}
 use Rattle.inputs.specs.Inputs.{head_of}
-use Rattle.area.specs.Levels.{table_size, control_of, next_of, DeepEnough}
+use Rattle.area.specs.Levels.{table_size, control_of, next_of}
 use Rattle.seats.specs.Seats.{site_of}
 use Rattle.area.specs.declared.stand.Stand.{Stand}
 use Rattle.area.specs.declared.stand.Next.{Next}
@@ -35,7 +35,7 @@ pub record Takes (f : Book → Site) (u : ℕ) (xs w : List ℕ) (u' : ℕ) (xs'
 
 -- where a move has led the site
 pub record Lands (next : Next) (e u : ℕ) (xs w : List ℕ) (u' : ℕ) (xs' w' : List ℕ) : Type 0 where
-  pub lands : DeepEnough next → Takes (land e (next_of next w)) u xs w u' xs' w'
+  pub lands : Takes (land e (next_of next w)) u xs w u' xs' w'
 
 -- the site notes its part of an event and control moves, or it stops for want of room
 pub record Settles (ev : Event) (mv : Move) (t : Stand) (P : Party) (u : ℕ) (xs w : List ℕ) (u' : ℕ) (xs' w' : List ℕ) : Type 0 where

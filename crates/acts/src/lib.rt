@@ -2,7 +2,6 @@
 #![tactic(auto)]
 
 ghost use Rattle.std.specs.Prelude.{◌≤◌, length};
-ghost use Rattle.limits.specs.Limits.{max_frames};
 ghost use Rattle.values.specs.Values.{slice};
 ghost use Rattle.refusals.specs.Numbers.{number_of};
 ghost use Rattle.rules.specs.Books.{handed, event_of};
@@ -53,7 +52,7 @@ pub fn land(next: Next, node: u16, used: usize, bytes: &mut [u8], area: &mut [u8
 }
 
 fn hand_back(v: Value, t: Stand, used: usize, bytes: &mut [u8], area: &mut [u8]) -> usize
-    requires { (t.depth.frames ≤ max_frames) × (row_size ≤ length area.old) }
+    requires { row_size ≤ length area.old }
     ensures { Takes (land t.node (move (Move.Hand v) (control_of t area.old))) used bytes.old area.old result bytes.new area.new }
 {
     let node = t.node;
@@ -71,7 +70,7 @@ fn settle(
     bytes: &mut [u8],
     area: &mut [u8],
 ) -> usize
-    requires { (t.depth.frames ≤ max_frames) × (row_size ≤ length area.old) }
+    requires { row_size ≤ length area.old }
     ensures { Settles ev (Move.Hand v) t p used bytes.old area.old result bytes.new area.new }
 {
     let node = t.node;
@@ -91,7 +90,7 @@ pub fn join(
     bytes: &mut [u8],
     area: &mut [u8],
 ) -> usize
-    requires { (t.depth.frames ≤ max_frames) × (row_size ≤ length area.old) }
+    requires { row_size ≤ length area.old }
     ensures { Settles (event_of mt i) (Move.Hand (slice p.index (handed mt i))) t p used bytes.old area.old result bytes.new area.new }
 {
     let ev = judge::meetings::event_of(mt, i);
@@ -109,7 +108,7 @@ pub fn act(
     bytes: &mut [u8],
     area: &mut [u8],
 ) -> usize
-    requires { (t.depth.frames ≤ max_frames) × (row_size ≤ length area.old) × Asked effect }
+    requires { (row_size ≤ length area.old) × Asked effect }
     ensures { Acts effect input t p used bytes.old area.old result bytes.new area.new }
 {
     let m = t.mode;

@@ -2,11 +2,10 @@
 use Rattle.std.specs.Prelude.{Ok}
 use mathlib.Core.Path.{◌≡◌, refl, sym, ◌∙◌, subst}
 use mathlib.Core.List.{List, [], ◌∷◌}
-use Prim.Native.Nat.{ℕ, zero, suc, ◌+◌, ◌≤◌}
+use Prim.Native.Nat.{ℕ, zero, suc, ◌+◌}
 use native.Mathlib.Omega.{arith}
 use denote.Enum.{Declared.tag_of}
 use types.Run.{OneOf, miss}
-use Rattle.limits.specs.Limits.{max_frames}
 use Rattle.limits.specs.declared.Name.{Name}
 use Rattle.parties.specs.declared.sets.PartySet.{PartySet}
 use Rattle.nodes.specs.declared.Node.{Node}
@@ -160,7 +159,3 @@ module _ (view : View) (bs : List ℕ) (nodes : ℕ) (t : Stand) (w : List ℕ) 
   unfolding Moves
   moves_keep P start keeps zero u v (same, bytes) = subst (λ (x : List ℕ). P 0 u x) bytes (subst (λ (s : Stand). P 0 s w) same start)
   moves_keep P start keeps (suc k) u v (s, x, h, a) = let next : k + 1 ≡ suc k = omega arith in subst (λ (j : ℕ). P j u v) next (keeps k s u x v (moves_keep P start keeps k s x h) a)
-
-  -- no more frames are down than there are levels for
-  pub moves_deep : (k : ℕ) (u : Stand) (v : List ℕ) → t.depth.frames ≤ max_frames → Moves view bs nodes k t w u v → u.depth.frames ≤ max_frames
-  moves_deep k u v d = moves_keep (λ j s x. s.depth.frames ≤ max_frames) d (λ j s u x v h a. (a.moved (Next'.On u) refl).2.deep) k u v

@@ -7,16 +7,13 @@ use native.Mathlib.Omega.{arith}
 use lib.ListN.{length, take, length-append, length-drop, drop_of_length-le}
 use lib.Seq.{take_all, length-take-le}
 use Rattle.std.specs.Prelude.{Option, Some, None, IsSome}
-use Rattle.limits.specs.Limits.{max_frames}
 use Rattle.rules.specs.declared.effects.View.TheVariants.{Whole}
 use Rattle.area.specs.Rows.{row_size, area_of, back}
 use Rattle.area.specs.declared.stand.Stand.{Stand}
 use Rattle.area.specs.declared.stand.Next.TheVariants.{On, Ends, Full}
-use Rattle.seats.specs.Seats.{DeepSeat}
 use Rattle.seats.specs.declared.Seat.TheVariants.{Running}
-use Rattle.seats.proofs.SeatLaws.{seat_deep}
 use Rattle.advance.specs.Advances.{Advances, Moves, GoesFar}
-use Rattle.advance.specs.Strides.{whose, view_of, RowsFit, seat_of, onward, leads, Kept, StepsInRow, InRow, LeadsOn, AmongRows, Led, StridesTo}
+use Rattle.advance.specs.Strides.{whose, view_of, RowsFit, onward, leads, Kept, StepsInRow, InRow, LeadsOn, AmongRows, Led, StridesTo}
 use Rattle.advance.specs.declared.Advanced.{Advanced}
 use Rattle.advance.specs.declared.Advanced.TheVariants.{Moved, Asks, Joins}
 use Rattle.advance.specs.declared.strides.Did.{Did}
@@ -24,14 +21,6 @@ use Rattle.advance.specs.declared.strides.Strode.{Strode}
 use Rattle.advance.proofs.AdvanceLaws.{no_moves, one_more}
 
 -- ---- a turn in its row
--- no more frames are down than there are levels for
-seat_few : (joint : Bool) (t : Stand) (w : List ℕ) → t.depth.frames ≤ max_frames → DeepSeat (seat_of joint t w)
-seat_few true t w few = seat_deep w
-seat_few false t w few = few
-
-pub running_few : (joint : Bool) (t s : Stand) (w : List ℕ) → Running s ≡ seat_of joint t w → t.depth.frames ≤ max_frames → s.depth.frames ≤ max_frames
-running_few joint t s w is few = subst DeepSeat (sym is) (seat_few joint t w few)
-
 -- where another step may follow, a move led on
 onward_is : (y : Advanced) (t : Stand) → Some t ≡ onward y → y ≡ Moved (On t)
 onward_is (Moved (On u)) t e = let same : t ≡ u = cc in ap (λ (x : Stand). Moved (On x)) (sym same)
@@ -92,15 +81,13 @@ back_length P xs ys fits long =
 
 module _ (joint : Bool) (ts bs : List ℕ) (nodes first : ℕ) (s : Stand) (x : List ℕ) (k P : ℕ) (turn : P ≡ whose joint ts (first + k)) (came : Option Did)
     (ys : List ℕ) (here : InRow joint P bs nodes s came (area_of P x) ys) (long : length ys ≡ row_size) where
-  -- it led on; no more frames are down than there are levels for
+  -- it led on
   pub turn_on : (t : Stand) (w : List ℕ) → Led joint ts bs nodes first k t w s x → (u : Stand) → Some u ≡ leads came
-      → (u.depth.frames ≤ max_frames) × Led joint ts bs nodes first (k + 1) t w u (back row_size P x ys)
+      → Led joint ts bs nodes first (k + 1) t w u (back row_size P x ys)
   turn_on t w h u to =
-      let l : LeadsOn joint P bs nodes s u (area_of P x) ys = row_leads joint P bs nodes s (area_of P x) came u ys to here in (
-        (l.advances.moved (On u) refl).2.deep,
-        led_more joint ts bs nodes first t w k s u x (back row_size P x ys) h
-            (subst (λ (p : ℕ). AmongRows p (LeadsOn joint p bs nodes s u) x (back row_size P x ys)) turn (ys, l, long, refl)),
-      )
+      let l : LeadsOn joint P bs nodes s u (area_of P x) ys = row_leads joint P bs nodes s (area_of P x) came u ys to here in
+      led_more joint ts bs nodes first t w k s u x (back row_size P x ys) h
+      (subst (λ (p : ℕ). AmongRows p (LeadsOn joint p bs nodes s u) x (back row_size P x ys)) turn (ys, l, long, refl))
 
 -- ---- the single run, whose one row is all there is
 module _ (w : List ℕ) (full : length w ≡ row_size) where

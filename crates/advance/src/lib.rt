@@ -4,7 +4,6 @@
 pub mod strides; // strides.rt: such steps one after the other, by whoever's turn it is
 
 ghost use Rattle.std.specs.Prelude.{◌≡◌, ◌≤◌, length};
-ghost use Rattle.limits.specs.Limits.{max_frames};
 ghost use Rattle.nodes.specs.Nodes.{joint_node};
 ghost use Rattle.nodes.specs.declared.Node.TheVariants.{CALL};
 ghost use Rattle.nodes.specs.declared.JointNode.TheVariants.{Neither};
@@ -27,7 +26,7 @@ pub enum Advanced {
 
 // By the rule of any node that is of no meeting.
 fn by_rule(view: View, node: Node, t: Stand, w: &mut [u8]) -> Advanced
-    requires { (t.depth.frames ≤ max_frames) × (row_size ≤ length w.old) × (joint_node node ≡ Neither) }
+    requires { (row_size ≤ length w.old) × (joint_node node ≡ Neither) }
     ensures { Answers view node t result w.old w.new }
 {
     let effect = lookup::effect(view, node, t, w);
@@ -47,7 +46,7 @@ enum Haste {
 
 // The value of CALL goes straight where it is bound. A name that is not bound is left to the rule, so that the refusal is made in one place.
 fn call(f: u16, x: Name, t: Stand, w: &mut [u8]) -> Haste
-    requires { (t.depth.frames ≤ max_frames) × (row_size ≤ length w.old) }
+    requires { row_size ≤ length w.old }
     ensures { Hastens (CALL f x) t result w.old w.new }
 {
     let m = t.mode;
@@ -61,7 +60,7 @@ fn call(f: u16, x: Name, t: Stand, w: &mut [u8]) -> Haste
 
 // LET and CALL, which every loop of a program is made of, need not be told from the other moves a second time; a meeting is left to whoever can hold it.
 fn hasten(node: Node, t: Stand, w: &mut [u8]) -> Haste
-    requires { (t.depth.frames ≤ max_frames) × (row_size ≤ length w.old) }
+    requires { row_size ≤ length w.old }
     ensures { Hastens node t result w.old w.new }
 {
     match node {
@@ -75,7 +74,7 @@ fn hasten(node: Node, t: Stand, w: &mut [u8]) -> Haste
 
 // One step.
 fn once(view: View, program: &[u8], nodes: usize, t: Stand, w: &mut [u8]) -> Advanced
-    requires { (t.depth.frames ≤ max_frames) × (row_size ≤ length w.old) × (nodes ≤ 1024) }
+    requires { (row_size ≤ length w.old) × (nodes ≤ 1024) }
     ensures { Advances view program.now nodes t result w.old w.new }
 {
     let node = table::node(program, nodes, w, t.node);

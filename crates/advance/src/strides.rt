@@ -1,7 +1,6 @@
 // Steps one after the other as long as control just moves, by whoever's turn it is: in the joint run the turn list says whose; the single run is one row.
 // Both runs come here, so that the code of a step has one caller; a run of moves does not leave the loop.
 ghost use Rattle.std.specs.Prelude.{◌≡◌, true, ◌+◌, ◌≤◌, ◌<◌, length};
-ghost use Rattle.limits.specs.Limits.{max_frames};
 ghost use Rattle.area.specs.Rows.{row_size};
 ghost use Rattle.advance.specs.Advances.{GoesFar};
 ghost use Rattle.advance.specs.Strides.{whose, view_of, seat_of, leads, Keeps, InRow, RowsFit, StridesTo};
@@ -69,9 +68,8 @@ fn keep(joint: bool, t: Stand, w: &mut [u8])
 }
 
 // A turn in its own row: a step, if the site is not over. Where it led on, where control now stands is kept.
-#[tactic(auto, using(crate::proofs::StrideLaws::running_few))]
 fn in_row(joint: bool, t: Stand, p: u8, program: &[u8], nodes: usize, w: &mut [u8]) -> Option<Did>
-    requires { (t.depth.frames ≤ max_frames) × (row_size ≤ length w.old) × (nodes ≤ 1024) }
+    requires { (row_size ≤ length w.old) × (nodes ≤ 1024) }
     ensures { InRow joint p program.now nodes t result w.old w.new }
 {
     let Seat::Running(stand) = seat_of(joint, t, w) else {
@@ -104,7 +102,7 @@ pub fn strides(
     most: u32,
     work: &mut [u8],
 ) -> Strode
-    requires { (1 ≤ most) × (joint ≡ true → first + most ≤ length turns.now) × (first ≤ 65535) × (start.depth.frames ≤ max_frames) × RowsFit joint turns.now (length work.old) × (nodes ≤ 1024) }
+    requires { (1 ≤ most) × (joint ≡ true → first + most ≤ length turns.now) × (first ≤ 65535) × RowsFit joint turns.now (length work.old) × (nodes ≤ 1024) }
     ensures { StridesTo joint turns.now program.now nodes first start most result work.old work.new }
 {
     let last = most - 1;
@@ -140,7 +138,7 @@ pub struct Gone {
 
 // The single run's steps as long as control just moves, at most `most` of them.
 pub fn far(program: &[u8], nodes: usize, start: Stand, most: u32, w: &mut [u8]) -> Gone
-    requires { (1 ≤ most) × (start.depth.frames ≤ max_frames) × (length w.old ≡ row_size) × (nodes ≤ 1024) }
+    requires { (1 ≤ most) × (length w.old ≡ row_size) × (nodes ≤ 1024) }
     ensures { GoesFar View.Whole program.now nodes start most result w.old w.new }
 {
     let nobody = [0u8; 0];

@@ -10,7 +10,6 @@ use lib.Seq.{sets, take-set-le}
 use Rattle.words.specs.Words.{number_at}
 use Rattle.words.proofs.WordLaws.{number_same}
 use Rattle.limits.specs.Limits.{max_names}
-use Rattle.parties.specs.declared.sets.PartySet.{PartySet}
 use Rattle.cells.specs.Cells.{width, cell_at}
 use Rattle.rules.specs.Names.{none_bound}
 use Rattle.rules.specs.Moves.{Frame}
@@ -74,10 +73,10 @@ zeros zero i = refl
 zeros (suc m) zero = refl
 zeros (suc m) (suc i) = zeros m i
 
-pub fresh : (node : ℕ) (mode : PartySet) (w : List ℕ) → names_at w 0 ≡ none_bound
-    → control_of (record { node = node; mode = mode; depth = record { frames = 0 } }) w ≡ record { node = node; mode = mode; names = none_bound; frames = [] }
+pub fresh : (t : Stand) (w : List ℕ) → t.depth.frames ≡ 0 → names_at w 0 ≡ none_bound
+    → control_of t w ≡ record { node = t.node; mode = t.mode; names = none_bound; frames = [] }
 unfolding control_of frames_of
-fresh node mode w z = rw z
+fresh t w e z = rw (e, z)
 
 -- ---- the table of places stays where the levels are stored to
 pub table_sets : (vs w : List ℕ) (p : ℕ) → table_size ≤ p → take table_size (sets w p vs) ≡ take table_size w

@@ -5,7 +5,6 @@ use mathlib.Core.List.{List, [], ◌∷◌, ◌++◌, append_assoc}
 use Prim.Native.Nat.{ℕ, suc, ◌+◌, ◌-◌, ◌*◌, ◌^◌, ◌≤◌, ◌<◌}
 use native.Mathlib.Nat.{add_assoc, add-zero}
 use native.Mathlib.Numerals.{add-one}
-use native.Mathlib.Decide.{dec_lt}
 use native.Mathlib.Omega.{arith}
 use borrow.Author.Tests.{lt-ltb, le-ltb}
 use lib.ListN.{length, get_or, set, take, drop, replicate, length-drop, length-replicate}
@@ -14,7 +13,9 @@ use Rattle.stretches.specs.Stretches.{stretch, copied}
 use Rattle.words.specs.Words.{low_first, number_at}
 use Rattle.stretches.proofs.StretchLaws.{sets_before, sets_at, sets_append}
 use Rattle.words.proofs.WordLaws.{length_bytes, number_same, number_in}
-use Rattle.limits.specs.Limits.{max_names, max_frames, deeper_than}
+use Rattle.limits.specs.Limits.{max_names, max_frames}
+use Rattle.limits.specs.Depths.{deeper_than}
+use Rattle.limits.proofs.DepthLaws.{deeper_made, deeper_not_made}
 use Rattle.parties.specs.SetBytes.{set_bytes, set_at}
 use Rattle.limits.specs.declared.Depth.{Depth}
 use Rattle.std.proofs.Common.{Some, None}
@@ -34,9 +35,9 @@ use Rattle.area.proofs.CellsLaws.{cells_same, cells_set, cells_zero}
 use Rattle.area.proofs.LevelLaws.{zeros, names_length, frame_same, frames_same, frames_top, frames_length, table_sets}
 
 -- ---- only the stand changes
-pub stands : (t : Stand) (w : List ℕ) → t.depth.frames ≤ max_frames → Goes (On t) (on (control_of t w)) w w
+pub stands : (t : Stand) (w : List ℕ) → Goes (On t) (on (control_of t w)) w w
 unfolding next_of
-stands t w few = record { gives = refl; deep = few; table = refl }
+stands t w = record { gives = refl; table = refl }
 
 -- ---- a name is bound
 module _ (x : Name) (v : Value) (d : ℕ) (w : List ℕ) where
@@ -62,40 +63,22 @@ module _ (x : Name) (v : Value) (d : ℕ) (w : List ℕ) where
 -- ---- a value is handed back
 pub ended : (v : Value) (d : ℕ) (w : List ℕ) → d ≡ 0 → Goes (Ends v) (hand_back v (frames_of w d)) w w
 unfolding next_of hand_back frames_of
-ended v d w e = record { gives = rw e; deep = tt; table = refl }
+ended v d w e = record { gives = rw e; table = refl }
 
-pub handed : (v : Value) (d at body : ℕ) (mode : PartySet) (w w' : List ℕ) → 0 < d → d ≤ max_frames → at ≡ level_at (d - 1)
-    → body ≡ number_at 2 w (at + 145) → mode ≡ set_at w (at + 147) → Binds (record { index = get_or w (at + 144) 0 }) v (d - 1) w w'
-    → Goes (On (record { node = body; mode = mode; depth = record { frames = d - 1 } })) (hand_back v (frames_of w d)) w w'
+pub handed : (v : Value) (d below : Depth) (at body : ℕ) (mode : PartySet) (w w' : List ℕ) → 0 < d.frames → below.frames ≡ d.frames - 1 → at ≡ level_at below.frames
+    → body ≡ number_at 2 w (at + 145) → mode ≡ set_at w (at + 147) → Binds (record { index = get_or w (at + 144) 0 }) v below.frames w w'
+    → Goes (On (record { node = body; mode = mode; depth = below })) (hand_back v (frames_of w d.frames)) w w'
 unfolding next_of hand_back control_of frame_at
-handed v d at body mode w w' deep few place b m n =
+handed v d below at body mode w w' deep e place b m n =
     record {
-      gives = rw (frames_top w d deep, b, m, n.names, n.frames, place);
-      deep = omega arith;
+      gives = rw (frames_top w d.frames deep, b, m, n.names, n.frames, place, e);
       table = n.table;
     }
 
 -- ---- a frame is put down
-deeper_made : (d e : Depth) → deeper_than d ≡ Some e → (d.frames < max_frames) × (e ≡ record { frames = d.frames + 1 })
-deeper_made d e m =
-    elim (dec_lt d.frames max_frames) [
-      | yes h ↦ (h, let r = rw (lt-ltb d.frames max_frames h) at m in cc)
-      | no h ↦
-          let r = rw (le-ltb d.frames max_frames (omega arith)) at m in
-          let z : ◌≡◌ {A = ℕ} 0 1 = cc in
-          absurd (omega arith)
-    ]
-
 pub no_deeper : (x : Name) (e1 e2 : ℕ) (t : Stand) (w : List ℕ) → deeper_than t.depth ≡ None → Goes Full (move (Down x e1 e2) (control_of t w)) w w
 unfolding next_of move control_of
-no_deeper x e1 e2 t w m =
-    elim (dec_lt t.depth.frames max_frames) [
-      | yes h ↦
-          let r = rw (lt-ltb t.depth.frames max_frames h) at m in
-          let z : ◌≡◌ {A = ℕ} 0 1 = cc in
-          absurd (omega arith)
-      | no h ↦ record { gives = rw (frames_length w t.depth.frames, le-ltb t.depth.frames max_frames (omega arith)); deep = tt; table = refl }
-    ]
+no_deeper x e1 e2 t w m = record { gives = rw (frames_length w t.depth.frames, le-ltb t.depth.frames max_frames (deeper_not_made t.depth m)); table = refl }
 
 -- a number in a run of stores
 pub number_stored : (k : ℕ) (vs w : List ℕ) (p o : ℕ) → o + k ≤ length vs → p + length vs ≤ length w → number_at k (sets w p vs) (p + o) ≡ number_at k vs o
@@ -195,7 +178,7 @@ module _ (x : Name) (e1 e2 : ℕ) (t : Stand) (up : Depth) (at : ℕ) (w w1 w2 w
   put_down =
       let d : ℕ = t.depth.frames in
       let few : d < max_frames = (deeper_made t.depth up deeper).0 in
-      let deep : up ≡ record { frames = d + 1 } = (deeper_made t.depth up deeper).1 in
+      let deep : up.frames ≡ d + 1 = (deeper_made t.depth up deeper).1 in
       let v : List ℕ = written x e2 t.mode d w few room in
       let big : row_size ≤ length v = rw (length-sets w (level_at d + 144) (behind x e2 t.mode)) room in
       let v_is : w2 ≡ v = rw place at (behind_written x e2 t.mode at w w1 w2 stored moded) in
@@ -203,10 +186,8 @@ module _ (x : Name) (e1 e2 : ℕ) (t : Stand) (up : Depth) (at : ℕ) (w w1 w2 w
       let names : names_at w' (d + 1) ≡ names_at w d = raised_names d v w' few big raised ∙ written_names x e2 t.mode d w few room in
       let frames : frames_of w' (d + 1) ≡ record { name = x; body = e2; mode = t.mode; names = names_at w d } ∷ frames_of w d
       = raised_frames d v w' few big raised ∙ rw (written_frame x e2 t.mode d w few room body-fits mode-fits, written_frames x e2 t.mode d w few room) in
-      rw deep
       record {
-        gives = rw (frames_length w d, lt-ltb d max_frames few, names, frames);
-        deep = omega arith;
+        gives = rw (frames_length w d, lt-ltb d max_frames few, deep, names, frames);
         table = raised_table d v w' few big raised ∙ table_sets (behind x e2 t.mode) w (level_at d + 144) (omega arith);
       }
 
@@ -228,13 +209,14 @@ module _ (at k : ℕ) (w ys : List ℕ) (fits : at + k ≤ length w) (z : ys ≡
   pub zeros_at : (i : ℕ) → i < k → get_or (sets w at ys) (at + i) 0 ≡ 0
   zeros_at i h = let l = zeros_length in sets_at ys w at i (omega arith) (omega arith) ∙ ap (λ (x : List ℕ). get_or x i 0) z ∙ zeros (length (take k (drop at w))) i
 
-module _ (f : ℕ) (v : Value) (t : Stand) (at k : ℕ) (w ys w' : List ℕ) (few : t.depth.frames ≤ max_frames) (room : row_size ≤ length w) where
+module _ (f : ℕ) (v : Value) (t : Stand) (at k : ℕ) (w ys w' : List ℕ) (room : row_size ≤ length w) where
   pub called : at ≡ level_at t.depth.frames → k ≡ 144 → ys ≡ replicate (length (take k (drop at w))) 0
       → Binds (record { index = 0 }) v t.depth.frames (take at w ++ (ys ++ drop k (drop at w))) w'
       → Goes (On (record { node = f; mode = t.mode; depth = t.depth })) (move (Call f v) (control_of t w)) w w'
   unfolding next_of move control_of none_bound
   called place e z b =
       let d : ℕ = t.depth.frames in
+      let few : d ≤ max_frames = t.depth.within in
       let fits : at + k ≤ length w = omega arith in
       let c = zeros_back at k w ys fits z in
       let n : Binds (record { index = 0 }) v t.depth.frames (sets w at ys) w' = rw c at b in
@@ -243,6 +225,5 @@ module _ (f : ℕ) (v : Value) (t : Stand) (at k : ℕ) (w ys w' : List ℕ) (fe
       let frames : frames_of (sets w at ys) d ≡ frames_of w d = frames_same d (sets w at ys) w (λ i h l. sets_before ys w at i (omega arith)) in
       record {
         gives = rw (n.names, n.frames, names, frames);
-        deep = few;
         table = n.table ∙ table_sets ys w at (omega arith);
       }

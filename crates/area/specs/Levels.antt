@@ -1,8 +1,8 @@
 -- What the bytes of a working area stand for. The first 2,048 bytes are the table of places; then come 65 levels of 160 bytes: sixteen cells,
 -- the name that waits, the node that follows (2), the mode (2). The present bindings are level `depth`, and the levels below are the frames.
-use Rattle.std.specs.Prelude.{◌≡◌, ℕ, zero, suc, ◌+◌, ◌*◌, ◌≤◌, List, [], ◌∷◌, get_or, take}
+use Rattle.std.specs.Prelude.{◌≡◌, ℕ, zero, suc, ◌+◌, ◌*◌, List, [], ◌∷◌, get_or, take}
 use Rattle.words.specs.Words.{number_at}
-use Rattle.limits.specs.Limits.{max_names, max_frames}
+use Rattle.limits.specs.Limits.{max_names}
 use Rattle.parties.specs.SetBytes.{set_at}
 use Rattle.cells.specs.Cells.{width, cell_at}
 use Rattle.rules.specs.Names.{Names}
@@ -53,14 +53,7 @@ next_of (On t) w = on (control_of t w)
 next_of (Ends v) w = ends v
 next_of Full w = full
 
--- no more frames are down than there are levels for
-abbrev pub DeepEnough : Next → Type 0
-DeepEnough (On t) = t.depth.frames ≤ max_frames
-DeepEnough (Ends v) = Unit {0}
-DeepEnough Full = Unit {0}
-
--- a move made in the bytes w, which leaves w': it is the one that was asked for, the frames stay in range, and the table of places stays
+-- a move made in the bytes w, which leaves w': it is the one that was asked for, and the table of places stays
 pub record Goes (y : Next) (next : Moves.Next) (w w' : List ℕ) : Type 0 where
   pub gives : next_of y w' ≡ next
-  pub deep : DeepEnough y
   pub table : take table_size w' ≡ take table_size w

@@ -1,6 +1,5 @@
 // The moves, in the levels of an area. LET copies one level up, handing back stores one cell in the level below; nothing else is copied.
 ghost use Rattle.std.specs.Prelude.{◌≡◌, ◌≤◌, length};
-ghost use Rattle.limits.specs.Limits.{max_frames};
 ghost use Rattle.rules.specs.Moves.{hand_back, move};
 ghost use Rattle.area.specs.Rows.{row_size};
 ghost use Rattle.area.specs.Levels.{level_at, frames_of, control_of, Goes};
@@ -28,7 +27,6 @@ const MODE: usize = 147;
 
 // Where a level lies.
 pub fn level_at(d: Depth) -> usize
-    requires { d.frames ≤ max_frames }
     ensures { result ≡ level_at d.frames }
 {
     TABLE + d.frames as usize * LEVEL
@@ -36,7 +34,7 @@ pub fn level_at(d: Depth) -> usize
 
 // The name x of a level is bound to v. A name out of range binds nothing.
 fn bind(x: Name, v: Value, d: Depth, w: &mut [u8])
-    requires { (d.frames ≤ max_frames) × (row_size ≤ length w.old) }
+    requires { row_size ≤ length w.old }
     ensures { Binds x v d.frames w.old w.new }
 {
     if x.index >= Name::MAX {
@@ -48,7 +46,7 @@ fn bind(x: Name, v: Value, d: Depth, w: &mut [u8])
 
 // A value is handed back: the top frame is removed, its mode and bindings return with its name bound to v, and its body is next.
 pub fn hand_back(v: Value, depth: Depth, w: &mut [u8]) -> Next
-    requires { (depth.frames ≤ max_frames) × (row_size ≤ length w.old) }
+    requires { row_size ≤ length w.old }
     ensures { Goes result (hand_back v (frames_of w.old depth.frames)) w.old w.new }
 {
     if depth.frames == 0 {
@@ -73,7 +71,7 @@ pub fn hand_back(v: Value, depth: Depth, w: &mut [u8]) -> Next
 
 // A frame is put down: the present level stays below with the name that waits, the node that follows and the mode; its copy is the next level.
 pub fn put_down(x: Name, e1: u16, e2: u16, t: Stand, w: &mut [u8]) -> Next
-    requires { (t.depth.frames ≤ max_frames) × (row_size ≤ length w.old) }
+    requires { row_size ≤ length w.old }
     ensures { Goes result (move (Move.Down x e1 e2) (control_of t w.old)) w.old w.new }
 {
     let depth = t.depth;
@@ -95,7 +93,7 @@ pub fn put_down(x: Name, e1: u16, e2: u16, t: Stand, w: &mut [u8]) -> Next
 
 // The body of a function: of its bindings only name 0 is there, bound to v.
 pub fn call(f: u16, v: Value, t: Stand, w: &mut [u8]) -> Next
-    requires { (t.depth.frames ≤ max_frames) × (row_size ≤ length w.old) }
+    requires { row_size ≤ length w.old }
     ensures { Goes result (move (Move.Call f v) (control_of t w.old)) w.old w.new }
 {
     let depth = t.depth;
@@ -113,7 +111,7 @@ pub fn call(f: u16, v: Value, t: Stand, w: &mut [u8]) -> Next
 
 // What a rule asks of control.
 pub fn go(mv: Move, t: Stand, w: &mut [u8]) -> Next
-    requires { (t.depth.frames ≤ max_frames) × (row_size ≤ length w.old) }
+    requires { row_size ≤ length w.old }
     ensures { Goes result (move mv (control_of t w.old)) w.old w.new }
 {
     let depth = t.depth;

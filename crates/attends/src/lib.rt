@@ -2,7 +2,6 @@
 #![tactic(auto)]
 
 ghost use Rattle.std.specs.Prelude.{◌≡◌, ◌≤◌, length};
-ghost use Rattle.limits.specs.Limits.{max_frames};
 ghost use Rattle.rules.specs.Joint.{agrees};
 ghost use Rattle.area.specs.Rows.{row_size};
 ghost use Rattle.attends.specs.Attends.{told, AttendsFrom, IsAt};
@@ -31,7 +30,7 @@ fn attends_from(
     used: usize,
     area: &[u8],
 ) -> Option<Offer>
-    requires { (t.depth.frames ≤ max_frames) × (row_size ≤ length area.now) }
+    requires { row_size ≤ length area.now }
     ensures { AttendsFrom venue.node t venue.e venue.mode p room used result area.now }
 {
     let stands = t.node;

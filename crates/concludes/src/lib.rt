@@ -2,7 +2,7 @@
 #![tactic(auto)]
 
 ghost use Rattle.std.specs.Prelude.{◌*◌, ◌+◌, ◌≤◌, ◌<◌, length};
-ghost use Rattle.limits.specs.Limits.{max_parties, max_frames};
+ghost use Rattle.limits.specs.Limits.{max_parties};
 ghost use Rattle.area.specs.Rows.{row_size};
 ghost use Rattle.concludes.specs.Concludes.{TakesPart, ConcludesOne, ConcludesAll};
 
@@ -29,7 +29,7 @@ fn take_part(
     bytes: &mut [u8],
     area: &mut [u8],
 ) -> usize
-    requires { (t.depth.frames ≤ max_frames) × (row_size ≤ length area.old) }
+    requires { row_size ≤ length area.old }
     ensures { TakesPart outcome t p used bytes.old area.old result bytes.new area.new }
 {
     let node = t.node;

@@ -1,7 +1,7 @@
 -- The turn list from an index on; a site's area at the start, and all of them; and when all sites have finished. Assumes nothing.
 use mathlib.Core.Path.{◌≡◌, refl, sym, ap, ◌∙◌}
 use mathlib.Core.Bool.{Bool, true, false, not, and-false}
-use mathlib.Core.List.{List, []}
+use mathlib.Core.List.{List}
 use mathlib.Core.Option.{none, some}
 use Prim.Native.Nat.{ℕ, zero, suc, ◌+◌, ◌-◌, ◌*◌, ◌≤◌, ◌<◌}
 use native.Mathlib.Decide.{dec_lt, ℕ_discrete}
@@ -11,19 +11,17 @@ use borrow.Author.Tests.{lt-ltb, le-ltb, not-true, not-false}
 use lib.ListN.{length, get_or, drop, drop_of_length-le}
 use lib.Seq.{drop-cons}
 use Rattle.stretches.specs.Stretches.{copied}
-use Rattle.limits.specs.Limits.{max_frames}
 use Rattle.rules.specs.Books.{Book}
 use Rattle.rules.specs.Calls.{max_turns, bad_turn_from}
 use Rattle.rules.specs.Joint.{Site, Sites, running, is_finished, all_finished, book_of}
 use Rattle.area.specs.Rows.{row_size, area_of, back}
 use Rattle.rules.specs.Moves.{Control}
-use Rattle.rules.specs.Names.{none_bound}
-use Rattle.area.specs.Levels.{names_at, frames_of, control_of}
 use Rattle.seats.specs.Seats.{seat_at, seated, site_of, Saves}
 use Rattle.table.specs.Table.{Prepared}
 use Rattle.area.specs.declared.stand.Stand.{Stand}
 use Rattle.seats.specs.declared.Seat.{Seat}
 use Rattle.seats.specs.declared.Seat.TheVariants.{Running, Finished, Stopped}
+use Rattle.area.proofs.LevelLaws.{fresh}
 use Rattle.area.proofs.MoveLaws.{part_back}
 use Rattle.table.proofs.TableLaws.{places_kept}
 use Rattle.area.proofs.RowLaws.{row_length}
@@ -49,19 +47,12 @@ module _ (n : ℕ) (ts : List ℕ) (i : ℕ) where
   turn_good h q l = rw (drop-cons ts i 0 h, lt-ltb (get_or ts i 0) n q, lt-ltb i max_turns l, add-one i)
 
 -- ---- a site's own area at the start
-fresh_control : (t : Stand) (w : List ℕ) → t.depth.frames ≡ 0 → names_at w 0 ≡ none_bound
-    → control_of t w ≡ record { node = t.node; mode = t.mode; names = none_bound; frames = [] }
-unfolding control_of frames_of
-fresh_control t w e z = rw (e, z)
-
 pub opens : (bs : List ℕ) (nodes : ℕ) (t : Stand) (w w' : List ℕ) → nodes ≤ 1024 → Prepared bs nodes w → Saves (Running t) w w' → OpensOne bs nodes t w'
 unfolding site_of
 opens bs nodes t w w' few p s =
     record {
       places = places_kept bs nodes w w' few s.table p.places;
-      site = λ e b.
-          let deep : t.depth.frames ≤ max_frames = omega arith in
-          rw (s.seat deep, s.levels t deep) (ap (λ (c : Control). running c b) (sym (fresh_control t w e p.fresh)));
+      site = λ e b. rw (s.seat, s.levels t) (ap (λ (c : Control). running c b) (sym (fresh t w e p.fresh)));
     }
 
 -- ---- the areas of all sites at the start

@@ -1,8 +1,7 @@
 -- The limits of document 01, each with the kind of thing that it limits.
-use Rattle.std.specs.Prelude.{ℕ, ◌+◌, ◌&&◌, cond, ltb, leb, Option, Some, None}
+use Rattle.std.specs.Prelude.{ℕ, ◌&&◌, cond, ltb, Option, Some, None}
 use Rattle.limits.specs.declared.Party.{Party}
 use Rattle.limits.specs.declared.Name.{Name}
-use Rattle.limits.specs.declared.Depth.{Depth}
 
 -- "n from 1 to 16"
 abbrev pub max_parties : ℕ
@@ -22,9 +21,3 @@ party_of i n = cond (ltb i n && ltb i max_parties) (Some (record { index = i }))
 
 abbrev pub name_of : ℕ → Option Name
 name_of x = cond (ltb x max_names) (Some (record { index = x })) None
-
-abbrev pub depth_of : ℕ → Option Depth
-depth_of k = cond (leb k max_frames) (Some (record { frames = k })) None
-
-abbrev pub deeper_than : Depth → Option Depth
-deeper_than d = cond (ltb d.frames max_frames) (Some (record { frames = d.frames + 1 })) None

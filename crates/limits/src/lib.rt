@@ -1,8 +1,8 @@
 // A party, a name and a count of frames. Each stands with its limit, MAX, and the constructor that keeps to it.
 #![tactic(auto)]
 
-ghost use Rattle.std.specs.Prelude.{◌≡◌};
-ghost use Rattle.limits.specs.Limits.{party_of, name_of, depth_of, deeper_than};
+ghost use Rattle.std.specs.Prelude.{◌≡◌, ◌≤◌};
+ghost use Rattle.limits.specs.Limits.{max_frames, party_of, name_of};
 
 #[derive(Clone, Copy, PartialEq, Eq)]
 pub struct Party {
@@ -46,13 +46,16 @@ impl Name {
     }
 }
 
-// How many frames are down.
+// How many frames are down, at most so many.
 #[derive(Clone, Copy)]
 pub struct Depth {
     pub frames: u8,
+    pub ghost within: { frames ≤ max_frames },
 }
 
 impl Depth {
+    ghost use Rattle.limits.specs.Depths.{depth_of, deeper_than};
+
     // At most so many frames are down.
     pub const MAX: u8 = 64;
 

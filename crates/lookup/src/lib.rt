@@ -2,7 +2,6 @@
 #![tactic(auto)]
 
 ghost use Rattle.std.specs.Prelude.{◌≡◌, ◌≤◌, [], ◌∷◌, length, take};
-ghost use Rattle.limits.specs.Limits.{max_frames};
 ghost use Rattle.rules.specs.Names.{look, look_all, names_of};
 ghost use Rattle.rules.specs.Rules.{rule};
 ghost use Rattle.area.specs.Rows.{row_size};
@@ -26,7 +25,7 @@ pub struct Unbound {
 
 // The binding of a name in the level that has so many frames below it, restricted to m.
 pub fn seek(w: &[u8], depth: Depth, m: PartySet, x: Name) -> Result<Binding, Unbound>
-    requires { (depth.frames ≤ max_frames) × (row_size ≤ length w.now) }
+    requires { row_size ≤ length w.now }
     ensures { result ≡ sought_of x (look m (names_at w.now depth.frames) x) }
 {
     let unbound = Unbound { name: x };
@@ -82,7 +81,7 @@ pub fn names_read(node: Node) -> Reading
 // The bindings of a node, or the first of its names that is unbound.
 #[tactic(auto, using(crate::proofs::LookupLaws::looked_none, crate::proofs::LookupLaws::first_unbound, crate::proofs::LookupLaws::looked_one, crate::proofs::LookupLaws::second_unbound, crate::proofs::LookupLaws::looked_two, crate::proofs::LookupLaws::third_unbound))]
 fn look_all(names: Reading, depth: Depth, m: PartySet, w: &[u8]) -> Result<Bindings, Unbound>
-    requires { (depth.frames ≤ max_frames) × (row_size ≤ length w.now) }
+    requires { row_size ≤ length w.now }
     ensures { told result ≡ padded (look_all m (names_at w.now depth.frames) (listed names)) }
 {
     let many = names.many;
@@ -115,7 +114,7 @@ fn look_all(names: Reading, depth: Depth, m: PartySet, w: &[u8]) -> Result<Bindi
 
 // What the node at which control stands asks for.
 pub fn effect(view: View, node: Node, t: Stand, w: &[u8]) -> Effect
-    requires { (t.depth.frames ≤ max_frames) × (row_size ≤ length w.now) }
+    requires { row_size ≤ length w.now }
     ensures { result ≡ rule view node t.mode (names_at w.now t.depth.frames) }
 {
     let m = t.mode;
@@ -128,7 +127,7 @@ pub fn effect(view: View, node: Node, t: Stand, w: &[u8]) -> Effect
 
 // What a joint node asks for, where somebody knows that it is one.
 pub fn joint_effect(view: View, node: JointNode, t: Stand, w: &[u8]) -> Effect
-    requires { (t.depth.frames ≤ max_frames) × (row_size ≤ length w.now) }
+    requires { row_size ≤ length w.now }
     ensures { result ≡ joint_rule view node t.mode (names_at w.now t.depth.frames) }
 {
     let m = t.mode;

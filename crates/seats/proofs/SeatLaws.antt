@@ -1,25 +1,25 @@
 -- A seat kept behind the levels: it is read back, and the levels and the table of places stay. Assumes nothing.
 use mathlib.Core.Path.{◌≡◌, refl, ap, ◌∙◌}
-use mathlib.Core.Bool.{Bool, true, false, cond}
 use mathlib.Core.List.{List, [], ◌∷◌, ◌++◌}
 use Prim.Native.Nat.{ℕ, ◌+◌, ◌^◌, ◌≤◌, ◌<◌}
 use native.Mathlib.Nat.{add-zero}
 use native.Mathlib.Omega.{arith}
-use borrow.Author.Tests.{le-leb, leb-true, ne_eqb}
-use lib.Dec.{eqb, leb}
+use borrow.Author.Tests.{ne_eqb}
 use lib.ListN.{length, get_or, set}
 use lib.Seq.{sets}
 use Rattle.words.specs.Words.{low_first, number_at}
 use Rattle.stretches.proofs.StretchLaws.{sets_before, sets_at, sets_append}
 use Rattle.words.proofs.WordLaws.{number_in}
-use Rattle.limits.specs.Limits.{max_frames, depth_of}
+use Rattle.limits.specs.Limits.{max_frames}
+use Rattle.limits.specs.Depths.{depth_of}
+use Rattle.limits.proofs.DepthLaws.{depth_made}
 use Rattle.parties.specs.SetBytes.{set_bytes}
 use Rattle.parties.specs.declared.sets.PartySet.{PartySet}
 use Rattle.limits.specs.declared.Depth.{Depth}
 use Rattle.std.proofs.Common.{Some, None}
 use Rattle.area.specs.Rows.{row_size}
 use Rattle.area.specs.Levels.{control_of}
-use Rattle.seats.specs.Seats.{seat_place, running_at, seat_at, DeepSeat, Saves}
+use Rattle.seats.specs.Seats.{seat_place, seat_at, Saves}
 use Rattle.area.specs.declared.stand.Stand.{Stand}
 use Rattle.seats.specs.declared.Seat.TheVariants.{Running, Finished, Stopped}
 use Rattle.area.proofs.LevelLaws.{control_same, table_sets}
@@ -61,8 +61,8 @@ module _ (t : Stand) where
 
 -- ---- the levels and the table stay
 module _ (vs w : List ℕ) where
-  levels_stay : (t : Stand) → t.depth.frames ≤ max_frames → control_of t (sets w seat_place vs) ≡ control_of t w
-  levels_stay t few = control_same t (sets w seat_place vs) w (λ i h l. sets_before vs w seat_place i (omega arith))
+  levels_stay : (t : Stand) → control_of t (sets w seat_place vs) ≡ control_of t w
+  levels_stay t = let few : t.depth.frames ≤ max_frames = t.depth.within in control_same t (sets w seat_place vs) w (λ i h l. sets_before vs w seat_place i (omega arith))
 
 -- ---- a seat is kept
 module _ (w : List ℕ) (room : row_size ≤ length w) where
@@ -71,11 +71,11 @@ module _ (w : List ℕ) (room : row_size ≤ length w) where
 
   pub saved_finished : Saves Finished w (set w seat_place 1)
   unfolding seat_at
-  saved_finished = record { seat = λ d. rw (marked 1); levels = levels_stay (1 ∷ []) w; table = table_sets (1 ∷ []) w seat_place (omega arith) }
+  saved_finished = record { seat = rw (marked 1); levels = levels_stay (1 ∷ []) w; table = table_sets (1 ∷ []) w seat_place (omega arith) }
 
   pub saved_stopped : Saves Stopped w (set w seat_place 0)
   unfolding seat_at
-  saved_stopped = record { seat = λ d. rw (marked 0); levels = levels_stay (0 ∷ []) w; table = table_sets (0 ∷ []) w seat_place (omega arith) }
+  saved_stopped = record { seat = rw (marked 0); levels = levels_stay (0 ∷ []) w; table = table_sets (0 ∷ []) w seat_place (omega arith) }
 
 pub saved_running : (t : Stand) (w w1 w2 : List ℕ) → row_size ≤ length w → t.node < 2 ^ 16 → t.mode.bits < 2 ^ 16
     → w1 ≡ sets (set w seat_place 2) (seat_place + 1) (low_first 2 t.node) → w2 ≡ sets w1 (seat_place + 3) (set_bytes t.mode)
@@ -90,7 +90,7 @@ saved_running t w w1 w2 room node-fits mode-fits e1 e2 =
     let frames : get_or v (seat_place + 5) 0 ≡ t.depth.frames = sets_at (seat_bytes t) w seat_place 5 (omega arith) (omega arith) ∙ seat_frames t in
     rw (seat_written t w w1 w2 e1 e2)
     record {
-      seat = λ d. rw (how, frames, le-leb t.depth.frames max_frames d, node, mode);
+      seat = rw (how, frames, depth_made t.depth.frames t.depth.within, node, mode);
       levels = levels_stay (seat_bytes t) w;
       table = table_sets (seat_bytes t) w seat_place (omega arith);
     }
@@ -114,20 +114,3 @@ module _ (w : List ℕ) where
       → Running (record { node = node; mode = mode; depth = depth }) ≡ seat_at w
   unfolding seat_at
   load_running node mode depth h d n m = rw (h, d, n, m)
-
-  -- whatever the bytes, no more frames are down than there are levels for
-  pub seat_deep : DeepSeat (seat_at w)
-  unfolding seat_at
-  seat_deep = go (eqb (get_or w seat_place 0) 1)
-    where
-      deep : (k : ℕ) (t : Bool) → leb k max_frames ≡ t → DeepSeat (running_at w (cond t (Some (record { frames = k })) None))
-      deep k true h = leb-true k max_frames h
-      deep k false h = tt
-
-      runs : (t : Bool) → DeepSeat (cond t (running_at w (depth_of (get_or w (seat_place + 5) 0))) Stopped)
-      runs true = deep (get_or w (seat_place + 5) 0) (leb (get_or w (seat_place + 5) 0) max_frames) refl
-      runs false = tt
-
-      go : (t : Bool) → DeepSeat (cond t Finished (cond (eqb (get_or w seat_place 0) 2) (running_at w (depth_of (get_or w (seat_place + 5) 0))) Stopped))
-      go true = tt
-      go false = runs (eqb (get_or w seat_place 0) 2)

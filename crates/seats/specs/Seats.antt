@@ -1,7 +1,8 @@
 -- Where a site is between its turns, as its area keeps it: how it is with it, and if it runs its node, its mode and how many frames are down.
-use Rattle.std.specs.Prelude.{◌≡◌, ℕ, ◌+◌, ◌≤◌, true, false, cond, List, eqb, get_or, take, Option, Some, None}
+use Rattle.std.specs.Prelude.{◌≡◌, ℕ, ◌+◌, true, false, cond, List, eqb, get_or, take, Option, Some, None}
 use Rattle.words.specs.Words.{number_at}
-use Rattle.limits.specs.Limits.{max_frames, depth_of}
+use Rattle.limits.specs.Limits.{max_frames}
+use Rattle.limits.specs.Depths.{depth_of}
 use Rattle.parties.specs.SetBytes.{set_at}
 use Rattle.limits.specs.declared.Depth.{Depth}
 use Rattle.rules.specs.Books.{Book}
@@ -40,14 +41,8 @@ IsOver (Running t) = ⊥
 IsOver Finished = Unit {0}
 IsOver Stopped = Unit {0}
 
--- no more frames are down than there are levels for
-abbrev pub DeepSeat : Seat → Type 0
-DeepSeat (Running t) = t.depth.frames ≤ max_frames
-DeepSeat Finished = Unit {0}
-DeepSeat Stopped = Unit {0}
-
 -- a seat is kept in the bytes w, which leaves w': the levels and the table of places stay
 pub record Saves (s : Seat) (w w' : List ℕ) : Type 0 where
-  pub seat : DeepSeat s → seat_at w' ≡ s
-  pub levels : (t : Stand) → t.depth.frames ≤ max_frames → control_of t w' ≡ control_of t w
+  pub seat : seat_at w' ≡ s
+  pub levels : (t : Stand) → control_of t w' ≡ control_of t w
   pub table : take table_size w' ≡ take table_size w

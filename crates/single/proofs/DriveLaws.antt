@@ -5,6 +5,7 @@ use Prim.Native.Nat.{ℕ, ◌-◌, ◌*◌, ◌≤◌}
 use lib.IntN.{ℤ}
 use lib.ListN.{length, replicate}
 use Rattle.limits.specs.Limits.{max_parties}
+use Rattle.limits.specs.declared.Depth.{Depth}
 use Rattle.parties.specs.Sets.{all}
 use Rattle.parties.specs.declared.sets.PartySet.{PartySet}
 use Rattle.rules.specs.Books.{opening}
@@ -21,12 +22,12 @@ use Rattle.single.specs.Runs.{Finishes, RunsOn, Drives}
 use Rattle.single.specs.declared.runs.Answer.{Answer}
 use Rattle.inputs.proofs.InputLaws.{inputs_start}
 
-pub drives_by : (bs : List ℕ) (n nodes room : ℕ) (counts : List ℕ) (is : List ℤ) (budget : ℕ) (a : Answer) (xs ls xs' ls' at end ls₁ w₁ : List ℕ) (mode : PartySet)
-    → n * room ≤ length xs → n ≤ length ls → Divided counts (replicate 16 0) (replicate 16 0) at end → ls₁ ≡ none_used n ls → Prepared bs nodes w₁ → mode ≡ all n
-    → RunsOn bs nodes room n is end budget (record { node = nodes - 1; mode = mode; depth = record { frames = 0 } }) a (record { bytes = xs; lengths = ls₁; work = w₁; at = at }) xs' ls'
+pub drives_by : (bs : List ℕ) (n nodes room : ℕ) (counts : List ℕ) (is : List ℤ) (budget : ℕ) (a : Answer) (xs ls xs' ls' at end ls₁ w₁ : List ℕ) (mode : PartySet) (depth : Depth)
+    → n * room ≤ length xs → n ≤ length ls → Divided counts (replicate 16 0) (replicate 16 0) at end → ls₁ ≡ none_used n ls → Prepared bs nodes w₁ → mode ≡ all n → depth.frames ≡ 0
+    → RunsOn bs nodes room n is end budget (record { node = nodes - 1; mode = mode; depth = depth }) a (record { bytes = xs; lengths = ls₁; work = w₁; at = at }) xs' ls'
     → Drives bs n nodes room counts is budget a xs ls xs' ls'
 unfolding after
-drives_by bs n nodes room counts is budget a xs ls xs' ls' at end ls₁ w₁ mode long places d e w em r =
+drives_by bs n nodes room counts is budget a xs ls xs' ls' at end ls₁ w₁ mode depth long places d e w em deep r =
     record {
       comes = λ p L g q len ec ei hb.
           let G : Given room n = record { inputs = is; end = end; bytes₀ = xs; lengths₀ = ls; long = long; places = places } in
@@ -39,6 +40,6 @@ drives_by bs n nodes room counts is budget a xs ls xs' ls' at end ls₁ w₁ mod
             fits = opening_fits (inputs_of L) room n hb;
             inputs = ins;
           } in
-          subst (λ (c : Control). Finishes a room n xs ls (run (record { program = p; room = room }) budget (going 0 c (opening (inputs_of L)))) xs' ls') (fresh (nodes - 1) mode w₁ w.fresh ∙ starts_at p n nodes mode em q len)
+          subst (λ (c : Control). Finishes a room n xs ls (run (record { program = p; room = room }) budget (going 0 c (opening (inputs_of L)))) xs' ls') (fresh (record { node = nodes - 1; mode = mode; depth = depth }) w₁ deep w.fresh ∙ starts_at p n nodes mode em q len)
           (r.comes G refl refl p g q len w.places (opening (inputs_of L)) st);
     }

@@ -5,7 +5,6 @@ use Prim.Native.Nat.{ℕ, zero, suc, ◌+◌, ◌-◌, ◌≤◌, ◌<◌}
 use native.Mathlib.Omega.{arith}
 use lib.IntN.{ℤ}
 use lib.ListN.{length, take}
-use Rattle.limits.specs.Limits.{max_frames}
 use Rattle.values.specs.declared.value.Value.{Value}
 use Rattle.program.specs.Check.{Program, good, checked}
 use Rattle.refusals.specs.Numbers.{number_of}
@@ -22,7 +21,7 @@ use Rattle.area.specs.declared.stand.Next.TheVariants as Next'
 use Rattle.advance.specs.Advances.{Advances, Moves}
 use Rattle.advance.specs.declared.Advanced.TheVariants.{Moved}
 use Rattle.advance.proofs.AdvanceLaws.{moves_keep}
-use Rattle.single_step.specs.Steps.{Lists, Given, Stands, Comes, DeepAfter, StepsOn, Strides}
+use Rattle.single_step.specs.Steps.{Lists, Given, Stands, Comes, StepsOn, Strides}
 use Rattle.single_step.proofs.PerformLaws.{move_steps}
 use Rattle.single.specs.Runs.{RunsOn}
 use Rattle.single_step.specs.declared.Stepped.{Stepped}
@@ -58,14 +57,13 @@ module _ (bs : List ℕ) (nodes room n : ℕ) (is : List ℤ) (end : List ℕ) (
 
   pub record Going (t : Stand) (k : ℕ) (l : Lists) : Type 0 where
     pub within : k ≤ budget
-    pub deep : t.depth.frames ≤ max_frames
     pub table : take table_size l.work ≡ take table_size l₀.work
     pub leads : Leads t k l
 
-  pub going_start : t₀.depth.frames ≤ max_frames → Going t₀ 0 l₀
-  going_start d =
+  pub going_start : Going t₀ 0 l₀
+  going_start =
       let z : budget - 0 ≡ budget = omega arith in
-      record { within = omega arith; deep = d; table = refl; leads = λ G ei ee p g q len places b₀ st. (b₀, rw z, st) }
+      record { within = omega arith; table = refl; leads = λ G ei ee p g q len places b₀ st. (b₀, rw z, st) }
 
   module _ (t : Stand) (k : ℕ) (l l' : Lists) (y : Stepped) (go : Going t k l) (few : nodes ≤ 1024) (h : k < budget) (d : StepsOn bs nodes room n is end t y l l') where
     -- where the step of the rules leads, and what is left from there
@@ -92,7 +90,6 @@ module _ (bs : List ℕ) (nodes room n : ℕ) (is : List ℤ) (end : List ℕ) (
     goes_on t' e =
         record {
           within = omega arith;
-          deep = subst DeepAfter e d.deep;
           table = d.table ∙ go.table;
           leads = λ G ei ee p g q len places b₀ st.
               let (s, c, r) = onward G ei ee p g q len places b₀ st in

@@ -1,6 +1,6 @@
 // The single run.
 ghost use Rattle.std.specs.Prelude.{◌≡◌, ◌*◌, ◌≤◌, length};
-ghost use Rattle.limits.specs.Limits.{max_parties, max_frames};
+ghost use Rattle.limits.specs.Limits.{max_parties};
 ghost use Rattle.program.specs.Answer.{accepted, check_answer};
 ghost use Rattle.rules.specs.Lent.{sum};
 ghost use Rattle.area.specs.Rows.{row_size};
@@ -39,7 +39,7 @@ fn run_on(
     lengths: &mut [usize],
     work: &mut [u8],
 ) -> Answer
-    requires { (n ≤ max_parties) × (n * room ≤ length bytes.old) × (n ≤ length lengths.old) × (start.depth.frames ≤ max_frames) × (length work.old ≡ row_size) × (max_parties ≤ length at.old) × (max_parties ≤ length end.now) × (nodes ≤ 1024) }
+    requires { (n ≤ max_parties) × (n * room ≤ length bytes.old) × (n ≤ length lengths.old) × (length work.old ≡ row_size) × (max_parties ≤ length at.old) × (max_parties ≤ length end.now) × (nodes ≤ 1024) }
     ensures { RunsOn program.now nodes room n inputs.now end.now budget start result (record { bytes = bytes.old; lengths = lengths.old; work = work.old; at = at.old }) bytes.new lengths.new }
 {
     let mut t = start;

@@ -39,7 +39,7 @@ use Rattle.area.specs.declared.stand.Next.TheVariants as Next'
 use Rattle.advance.specs.Advances.{Advances}
 use Rattle.advance.specs.declared.Advanced.TheVariants as Advanced'
 use Rattle.inputs.specs.Inputs.{InputsHold}
-use Rattle.single_step.specs.Steps.{Lists, Given, Stands, Comes, DeepAfter, Moved, entered, EntryOf, Settles, StepsOn}
+use Rattle.single_step.specs.Steps.{Lists, Given, Stands, Comes, Moved, entered, EntryOf, Settles, StepsOn}
 use Rattle.single_step.specs.declared.Stepped.{Stepped}
 use Rattle.single_step.specs.declared.Stepped.TheVariants.{On}
 use Rattle.single_step.proofs.StepLaws.{arrives_on, moved_by}
@@ -111,7 +111,6 @@ pub record Performs (room n : ℕ) (is : List ℤ) (end : List ℕ) (effect : Ef
   pub comes : (G : Given room n) → G.inputs ≡ is → G.end ≡ end → (p : Program) → p.parties ≡ n → (k : ℕ) (b : Books) → Stands G b l
       → Comes y G k t.node (perform (record { program = p; room = room }) k (control_of t l.work) b effect) l'
   pub table : take table_size l'.work ≡ take table_size l.work
-  pub deep : DeepAfter y
 
 module _ (room n : ℕ) (is : List ℤ) (end : List ℕ) (t : Stand) (y : Stepped) (l l' : Lists) where
   -- a move: nothing is noted
@@ -124,7 +123,6 @@ module _ (room n : ℕ) (is : List ℤ) (end : List ℕ) (t : Stand) (y : Steppe
             (sym (all_free p.parties t.mode room b))
             (d.comes G k (note_all t.mode none b) l'.at (stands_none G t.mode b l l'.at ea st));
         table = d.table;
-        deep = d.deep;
       }
 
   -- any other effect: its entry is made
@@ -139,7 +137,6 @@ module _ (room n : ℕ) (is : List ℤ) (end : List ℕ) (t : Stand) (y : Steppe
             subst (λ (z : Single). Comes y G k t.node z l') (sym (told.comes (record { program = p; room = room }) k (control_of t l.work) b refl held))
             (s.comes G p q k b l.at l'.at st left);
         table = s.table;
-        deep = s.deep;
       }
 
 -- ---- a step is what the rule of the node asks for, done
@@ -155,7 +152,6 @@ steps_on bs nodes room n is end t y l l' effect e d =
           (e ∙ ap (λ (x : Node). rule Whole x t.mode (names_at l.work t.depth.frames)) here)
           (d.comes G ei ee p q k b st);
       table = d.table;
-      deep = d.deep;
     }
 
 -- a move that leads on is a step

@@ -37,19 +37,18 @@ use Rattle.ledger.proofs.RowLaws.{holds_length}
 module _ (room n : ℕ) (xs ls : List ℕ) where
   pub arrives_on : (t : Stand) → Arrives room n (Next'.On t) (On t) xs ls xs ls
   unfolding arrive next_of
-  arrives_on t = record { comes = λ G k e b work at st. (b, refl, st); deep = λ d. d }
+  arrives_on t = record { comes = λ G k e b work at st. (b, refl, st) }
 
   pub arrives_end : (v : Value) (xs' ls' : List ℕ) → FinishesAll room n v xs ls xs' ls' → Arrives room n (Next'.Ends v) Ended xs ls xs' ls'
   unfolding arrive next_of
   arrives_end v xs' ls' f =
       record {
         comes = λ G k e b work at st. (v, (λ P. add (finished (slice P v)) (b P)), refl, f.holds b G.bytes₀ G.lengths₀ G.long G.places st.holds st.fits);
-        deep = λ d. tt;
       }
 
   pub arrives_full : Arrives room n Next'.Full (Stopped TooDeep) xs ls xs ls
   unfolding arrive next_of
-  arrives_full = record { comes = λ G k e b work at st. (b, refl, st.holds); deep = λ d. tt }
+  arrives_full = record { comes = λ G k e b work at st. (b, refl, st.holds) }
 
 -- ---- moving
 
@@ -61,7 +60,6 @@ module _ (room n : ℕ) (mv : Move) (t : Stand) (next : Next) (y : Stepped) (xs 
             subst (λ (z : Moves.Next). Comes y G k t.node (arrive k t.node z b) (record { bytes = xs'; lengths = ls'; work = w'; at = at })) g.gives
             (a.comes G k t.node b w' at (record { holds = st.holds; fits = st.fits; inputs = st.inputs }));
         table = g.table;
-        deep = a.deep g.deep;
       }
 
 -- ---- settling
@@ -82,7 +80,7 @@ rooms_are R n m ev b xs₀ ls₀ xs ls h holds =
 module _ (room n : ℕ) (t : Stand) (xs ls w : List ℕ) where
   pub settled_refusal : (r : Refusal) → Settles room n (Err r) t (Stopped r) xs ls w xs ls w
   unfolding control_of
-  settled_refusal r = record { comes = λ G p q k b at at' st ins. (b, refl, st.holds); table = refl; deep = tt }
+  settled_refusal r = record { comes = λ G p q k b at at' st ins. (b, refl, st.holds); table = refl }
 
 module _ (room n : ℕ) (ev : Event) (v : Value) (t : Stand) (xs ls w : List ℕ) where
   settles_all : (p : Program) → p.parties ≡ n → (k : ℕ) (b : Books) (xs₀ ls₀ : List ℕ) → Holds room n b xs₀ ls₀ xs ls → n ≤ length ls₀ → (has : Bool) → rooms_for room n t.mode ev ls ≡ has
@@ -104,7 +102,6 @@ module _ (room n : ℕ) (ev : Event) (v : Value) (t : Stand) (xs ls w : List ℕ
             (sym (settles_all p q k b G.bytes₀ G.lengths₀ st.holds G.places true r))
             (d.comes G k (note_all t.mode (some ev) b) at' (record { holds = noted.0; fits = noted.1; inputs = ins }));
         table = d.table;
-        deep = d.deep;
       }
 
   -- a member lacks room: nobody notes it, and the run stops
@@ -113,5 +110,4 @@ module _ (room n : ℕ) (ev : Event) (v : Value) (t : Stand) (xs ls w : List ℕ
       record {
         comes = λ G p q k b at at' st ins. (b, settles_all p q k b G.bytes₀ G.lengths₀ st.holds G.places false r, st.holds);
         table = refl;
-        deep = tt;
       }

@@ -1,7 +1,7 @@
 -- One step of the single run, in the lent bytes: from a stand, books and an area to what the step of the rules comes to.
 use Rattle.std.specs.Prelude.{◌≡◌, ℕ, ◌+◌, ◌*◌, ◌≤◌, ◌<◌, List, ℤ, length, take, Result, Ok, Err}
 use Rattle.std.proofs.Math.Option.{some}
-use Rattle.limits.specs.Limits.{max_parties, max_frames}
+use Rattle.limits.specs.Limits.{max_parties}
 use Rattle.parties.specs.declared.sets.PartySet.{PartySet}
 use Rattle.refusals.specs.declared.Refusal.{Refusal}
 use Rattle.values.specs.declared.value.Value.{Value}
@@ -15,7 +15,7 @@ use Rattle.rules.specs.declared.effects.View.TheVariants.{Whole}
 use Rattle.rules.specs.declared.effects.Move.{Move}
 use Rattle.rules.specs.declared.effects.Move.TheVariants.{Hand}
 use Rattle.rules.specs.declared.effects.Effect.{Effect}
-use Rattle.area.specs.Levels.{table_size, control_of, next_of, DeepEnough}
+use Rattle.area.specs.Levels.{table_size, control_of, next_of}
 use Rattle.table.specs.Table.{PlacesIn}
 use Rattle.area.specs.declared.stand.Stand.{Stand}
 use Rattle.area.specs.declared.stand.Next.{Next}
@@ -56,18 +56,11 @@ Comes (On t) {room} {n} G k e s l = (b : Books) × (s ≡ going (k + 1) (control
 Comes Ended {room} {n} G k e s l = (v : Value) × (b : Books) × (s ≡ ended (k + 1) v b) × Holds room n b G.bytes₀ G.lengths₀ l.bytes l.lengths
 Comes (Stopped r) {room} {n} G k e s l = (b : Books) × (s ≡ stopped k (number_of r) e b) × Holds room n b G.bytes₀ G.lengths₀ l.bytes l.lengths
 
--- no more frames are down than there are levels for
-abbrev pub DeepAfter : Stepped → Type 0
-DeepAfter (On t) = t.depth.frames ≤ max_frames
-DeepAfter Ended = Unit {0}
-DeepAfter (Stopped r) = Unit {0}
-
 -- control arrives where a move has led it
 pub record Arrives (room n : ℕ) (next : Next) (y : Stepped) (bytes lengths bytes' lengths' : List ℕ) : Type 0 where
   pub comes : (G : Given room n) (k e : ℕ) (b : Books) (work at : List ℕ)
       → Stands G b (record { bytes = bytes; lengths = lengths; work = work; at = at })
       → Comes y G k e (arrive k e (next_of next work) b) (record { bytes = bytes'; lengths = lengths'; work = work; at = at })
-  pub deep : DeepEnough next → DeepAfter y
 
 -- control makes a move, and arrives
 pub record Moved (room n : ℕ) (mv : Move) (t : Stand) (y : Stepped) (bytes lengths work bytes' lengths' work' : List ℕ) : Type 0 where
@@ -75,7 +68,6 @@ pub record Moved (room n : ℕ) (mv : Move) (t : Stand) (y : Stepped) (bytes len
       → Stands G b (record { bytes = bytes; lengths = lengths; work = work; at = at })
       → Comes y G k t.node (arrive k t.node (move mv (control_of t work)) b) (record { bytes = bytes'; lengths = lengths'; work = work'; at = at })
   pub table : take table_size work' ≡ take table_size work
-  pub deep : DeepAfter y
 
 -- what an entry comes to: the run stops, or each member notes the event and the value is handed back
 abbrev pub enter : Setting → ℕ → Control → Books → Result (Event × Value) Refusal → Single
@@ -99,7 +91,6 @@ pub record Settles (room n : ℕ) (entry : Result (Event × Value) Refusal) (t :
       → InputsHold max_parties G.inputs at' G.end (entered entry t.mode b)
       → Comes y G k t.node (enter (record { program = p; room = room }) k (control_of t work) b entry) (record { bytes = bytes'; lengths = lengths'; work = work'; at = at' })
   pub table : take table_size work' ≡ take table_size work
-  pub deep : DeepAfter y
 
 -- a step that is no move
 abbrev pub NoMove : Advanced → Type 0
@@ -116,7 +107,6 @@ pub record StepsOn (bs : List ℕ) (nodes room n : ℕ) (is : List ℤ) (end : L
   pub comes : (G : Given room n) → G.inputs ≡ is → G.end ≡ end → (p : Program) → checked bs ≡ good p → p.parties ≡ n → length p.nodes ≡ nodes → PlacesIn bs nodes l.work
       → (k : ℕ) (b : Books) → Stands G b l → Comes y G k t.node (step (record { program = p; room = room }) (going k (control_of t l.work) b)) l'
   pub table : take table_size l'.work ≡ take table_size l.work
-  pub deep : DeepAfter y
 
 -- some steps of a good program's run: moves, fewer than `most`, from t to u, and the step from there
 abbrev pub Strides : (bs : List ℕ) (nodes room n : ℕ) → List ℤ → (end : List ℕ) (most : ℕ) → Stand → Stride → (l l' : Lists) → Type 0

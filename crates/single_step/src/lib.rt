@@ -2,7 +2,7 @@
 #![tactic(auto)]
 
 ghost use Rattle.std.specs.Prelude.{◌≡◌, ◌*◌, ◌≤◌, length};
-ghost use Rattle.limits.specs.Limits.{max_parties, max_frames};
+ghost use Rattle.limits.specs.Limits.{max_parties};
 ghost use Rattle.parties.specs.Sets.{count};
 ghost use Rattle.area.specs.Rows.{row_size};
 ghost use Rattle.single_step.specs.Steps.{Arrives, Moved, EntryOf, Settles, EffectOf, Strides};
@@ -50,7 +50,7 @@ fn hand_back(
     lengths: &mut [usize],
     work: &mut [u8],
 ) -> Stepped
-    requires { (n ≤ max_parties) × (n * room ≤ length bytes.old) × (n ≤ length lengths.old) × (t.depth.frames ≤ max_frames) × (row_size ≤ length work.old) }
+    requires { (n ≤ max_parties) × (n * room ≤ length bytes.old) × (n ≤ length lengths.old) × (row_size ≤ length work.old) }
     ensures { Moved room n (Move.Hand v) t result bytes.old lengths.old work.old bytes.new lengths.new work.new }
 {
     let next = area::levels::hand_back(v, t.depth, work);
@@ -67,7 +67,7 @@ fn settled(
     lengths: &mut [usize],
     work: &mut [u8],
 ) -> Stepped
-    requires { (n ≤ max_parties) × (n * room ≤ length bytes.old) × (n ≤ length lengths.old) × (t.depth.frames ≤ max_frames) × (row_size ≤ length work.old) }
+    requires { (n ≤ max_parties) × (n * room ≤ length bytes.old) × (n ≤ length lengths.old) × (row_size ≤ length work.old) }
     ensures { Settles room n entry t result bytes.old lengths.old work.old bytes.new lengths.new work.new }
 {
     let m = t.mode;
@@ -129,7 +129,7 @@ fn entry_of(
 
 // What the rule asks for besides a move, where the loop over moves was left: of a move nothing is left to do.
 fn effect_of(advanced: Advanced, program: &[u8], nodes: usize, t: Stand, w: &[u8]) -> Effect
-    requires { (t.depth.frames ≤ max_frames) × (row_size ≤ length w.now) }
+    requires { row_size ≤ length w.now }
     ensures { EffectOf program.now nodes advanced t result w.now }
 {
     match advanced {
@@ -165,7 +165,7 @@ pub fn step(
     lengths: &mut [usize],
     work: &mut [u8],
 ) -> Stride
-    requires { (1 ≤ most) × (n ≤ max_parties) × (n * room ≤ length bytes.old) × (n ≤ length lengths.old) × (t.depth.frames ≤ max_frames) × (length work.old ≡ row_size) × (max_parties ≤ length at.old) × (max_parties ≤ length end.now) × (nodes ≤ 1024) }
+    requires { (1 ≤ most) × (n ≤ max_parties) × (n * room ≤ length bytes.old) × (n ≤ length lengths.old) × (length work.old ≡ row_size) × (max_parties ≤ length at.old) × (max_parties ≤ length end.now) × (nodes ≤ 1024) }
     ensures { Strides program.now nodes room n inputs.now end.now most t result (record { bytes = bytes.old; lengths = lengths.old; work = work.old; at = at.old }) (record { bytes = bytes.new; lengths = lengths.new; work = work.new; at = at.new }) }
 {
     let gone = far(program, nodes, t, most, work);

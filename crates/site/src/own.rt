@@ -1,6 +1,5 @@
 // What a site's own rule asks of it, with its own checks.
 ghost use Rattle.std.specs.Prelude.{◌≡◌, ◌≤◌, length, pos};
-ghost use Rattle.limits.specs.Limits.{max_frames};
 ghost use Rattle.records.specs.Events.{has_room};
 ghost use Rattle.rules.specs.Books.{event_of, event_for};
 ghost use Rattle.area.specs.Rows.{row_size};
@@ -43,7 +42,7 @@ fn weighed(effect: Effect, p: Party, room: usize, used: usize) -> Own
 
 // What site p, which stands at t, is to do at a joint node.
 pub fn own_at(node: JointNode, p: Party, t: Stand, room: usize, used: usize, area: &[u8]) -> Own
-    requires { (t.depth.frames ≤ max_frames) × (row_size ≤ length area.now) }
+    requires { row_size ≤ length area.now }
     ensures { Owns node p t room used result area.now }
 {
     let effect = lookup::joint_effect(View::Site(p), node, t, area);
@@ -68,7 +67,7 @@ fn meeting_of(effect: Effect) -> Option<Invitation>
 
 // The meeting that the rule of a joint node asks site p for.
 fn meeting(p: Party, node: JointNode, t: Stand, area: &[u8]) -> Option<Invitation>
-    requires { (t.depth.frames ≤ max_frames) × (row_size ≤ length area.now) }
+    requires { row_size ≤ length area.now }
     ensures { result ≡ meeting_of (joint_rule (View.Site p) node t.mode (names_at area.now t.depth.frames)) }
 {
     let m = t.mode;
@@ -101,7 +100,7 @@ pub fn invited(
     used: usize,
     area: &[u8],
 ) -> Option<Invitation>
-    requires { (t.depth.frames ≤ max_frames) × (row_size ≤ length area.now) }
+    requires { row_size ≤ length area.now }
     ensures { Invites node p t room used result area.now }
 {
     let invitation = meeting(p, node, t, area)?;

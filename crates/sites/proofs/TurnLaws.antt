@@ -1,5 +1,5 @@
 -- A turn, from what its parts say. Assumes nothing.
-use mathlib.Core.Path.{◌≡◌, refl, sym, ap, ◌∙◌, subst}
+use mathlib.Core.Path.{◌≡◌, refl, ap, ◌∙◌, subst}
 use mathlib.Core.Bool.{Bool, true, false}
 use mathlib.Core.List.{List, ◌++◌}
 use Prim.Native.Nat.{ℕ, ◌+◌, ◌-◌, ◌*◌, ◌≤◌, ◌<◌}
@@ -25,13 +25,12 @@ use Rattle.rules.specs.declared.effects.Effect.TheVariants.{Goes}
 use Rattle.rules.specs.declared.effects.View.TheVariants as View'
 use Rattle.inputs.specs.Inputs.{head_of}
 use Rattle.area.specs.Levels.{control_of, next_of}
-use Rattle.seats.specs.Seats.{seat_at, seated, site_of, IsOver, DeepSeat, Saves}
+use Rattle.seats.specs.Seats.{seat_at, seated, site_of, IsOver, Saves}
 use Rattle.area.specs.declared.stand.Stand.{Stand}
 use Rattle.area.specs.declared.stand.Next.{Next}
 use Rattle.area.specs.declared.stand.Next.TheVariants.{On, Ends, Full}
 use Rattle.seats.specs.declared.Seat.{Seat}
 use Rattle.seats.specs.declared.Seat.TheVariants.{Running, Finished, Stopped}
-use Rattle.seats.proofs.SeatLaws.{seat_deep}
 use Rattle.table.specs.Table.{PlacesIn, node_by}
 use Rattle.table.proofs.TableLaws.{node_by_lem}
 use Rattle.lookup.specs.Lookup.{Unmet}
@@ -185,7 +184,7 @@ lands_kept : (next : Next) (e u : ℕ) (xs x kept : List ℕ) (u' : ℕ) (xs' w'
 unfolding next_of
 lands_kept (On t) e u xs x kept u' xs' w' k l =
     let s : Saves (Running t) x kept = k.saves refl in
-    record { lands = λ deep. let y : Takes (land e (on (control_of t x))) u xs kept u' xs' w' = rw (s.levels t deep) at (l.lands deep) in record { took = y.took; table = y.table ∙ s.table } }
+    record { lands = let y : Takes (land e (on (control_of t x))) u xs kept u' xs' w' = rw (s.levels t) at l.lands in record { took = y.took; table = y.table ∙ s.table } }
 lands_kept (Ends v) e u xs x kept u' xs' w' k l = subst (λ (y : List ℕ). Lands (Ends v) e u xs y u' xs' w') k l
 lands_kept Full e u xs x kept u' xs' w' k l = subst (λ (y : List ℕ). Lands Full e u xs y u' xs' w') k l
 
@@ -257,5 +256,5 @@ module _ (bs : List ℕ) (nodes P n room : ℕ) (is : List ℤ) (end at bytes le
 
 -- what a turn came to fits
 pub came_fits : (bs : List ℕ) (nodes P : ℕ) (came : Option Did) (t : Stand) (w x : List ℕ) → AmongRows P (InRow true P bs nodes t came) w x → Fits came
-came_fits bs nodes P (Some did) t w x (ys, d, area, e) = (subst DeepSeat (sym d.sits) (seat_deep (area_of P w)), λ effect q. (d.advances.asks effect q).1)
+came_fits bs nodes P (Some did) t w x (ys, d, area, e) = λ effect q. (d.advances.asks effect q).1
 came_fits bs nodes P None t w x h = tt

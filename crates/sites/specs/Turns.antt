@@ -1,6 +1,5 @@
 -- A turn in the lent bytes: from the sites that they hold to the sites after it, and whether it counts.
 use Rattle.std.specs.Prelude.{◌≡◌, ℕ, ◌+◌, ◌*◌, ◌≤◌, ◌<◌, Bool, true, List, Option, Some, None, ℤ, length, get_or, set}
-use Rattle.limits.specs.Limits.{max_frames}
 use Rattle.nodes.specs.Nodes.{joint_node, IsJoint}
 use Rattle.rules.specs.Joint.{Sites, turn}
 use Rattle.rules.specs.declared.effects.Effect.{Effect}
@@ -40,9 +39,9 @@ pub record LandsRow (next : Next) (e P room : ℕ) (bytes lengths work bytes' le
   pub counts : lengths' ≡ set lengths P used
   pub areas : work' ≡ back row_size P work area
 
--- what a step can have come to: no more frames are down than there are levels for, and a rule asks for more than a move
+-- what a step can have come to: a rule asks for more than a move
 abbrev pub Fits : Option Did → Type 0
-Fits (Some did) = (did.stand.depth.frames ≤ max_frames) × ((effect : Effect) → did.came ≡ Asks effect → Asked effect)
+Fits (Some did) = (effect : Effect) → did.came ≡ Asks effect → Asked effect
 Fits None = Unit {0}
 
 -- what is left to do of a turn of site P, which in the rows work₀ came to this

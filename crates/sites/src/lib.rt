@@ -2,7 +2,7 @@
 #![tactic(auto)]
 
 ghost use Rattle.std.specs.Prelude.{◌+◌, ◌*◌, ◌≤◌, ◌<◌, length};
-ghost use Rattle.limits.specs.Limits.{max_parties, max_frames};
+ghost use Rattle.limits.specs.Limits.{max_parties};
 ghost use Rattle.area.specs.Rows.{row_size};
 ghost use Rattle.sites.specs.Turns.{LandsRow, TurnsJoined, Fits, TurnsCame};
 
@@ -28,7 +28,7 @@ fn joined(
     lengths: &mut [usize],
     work: &mut [u8],
 ) -> bool
-    requires { (p < n) × (n ≤ max_parties) × (n * room ≤ length bytes.old) × (n ≤ length lengths.old) × (n * row_size ≤ length work.old) × (max_parties ≤ length at.old) × (max_parties ≤ length end.now) × (t.depth.frames ≤ max_frames) }
+    requires { (p < n) × (n ≤ max_parties) × (n * room ≤ length bytes.old) × (n ≤ length lengths.old) × (n * row_size ≤ length work.old) × (max_parties ≤ length at.old) × (max_parties ≤ length end.now) }
     ensures { TurnsJoined program.now nodes t p n room inputs.now end.now result at.old bytes.old lengths.old work.old at.new bytes.new lengths.new work.new }
 {
     let from = p as usize * ROW;

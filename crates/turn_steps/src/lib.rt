@@ -2,7 +2,7 @@
 #![tactic(auto)]
 
 ghost use Rattle.std.specs.Prelude.{◌≡◌, ◌*◌, ◌+◌, ◌≤◌, ◌<◌, length};
-ghost use Rattle.limits.specs.Limits.{max_parties, max_frames};
+ghost use Rattle.limits.specs.Limits.{max_parties};
 ghost use Rattle.area.specs.Rows.{row_size};
 ghost use Rattle.advance.specs.Advances.{Asked};
 ghost use Rattle.turn_steps.specs.Steps.{once, taken_by, Meets, ActsAlone};
@@ -60,7 +60,7 @@ pub fn act_alone(
     lengths: &mut [usize],
     work: &mut [u8],
 )
-    requires { (t.depth.frames ≤ max_frames) × (p * room + room ≤ length bytes.old) × (p < length lengths.old) × (p * row_size + row_size ≤ length work.old) × (p < length at.old) × (p < length end.now) × Asked effect }
+    requires { (p * room + room ≤ length bytes.old) × (p < length lengths.old) × (p * row_size + row_size ≤ length work.old) × (p < length at.old) × (p < length end.now) × Asked effect }
     ensures { ActsAlone effect t p room inputs.now end.now at.old bytes.old lengths.old work.old at.new bytes.new lengths.new work.new }
 {
     let i = p as usize;

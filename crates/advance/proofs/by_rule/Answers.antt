@@ -6,7 +6,7 @@ use Rattle.advance.proofs.by_rule.Goals as goal
 
 pub returns-in_default : goal.returns-in_default
 returns-in_default c = let a = c.args in
-    answers_asks a.view a.node a.t a.w.now _ c.effect-effect.ensures (asked_left c.effect-effect.result (opened c.in_default.in_default-own.keys2)) c.requires.2
+    answers_asks a.view a.node a.t a.w.now _ c.effect-effect.ensures (asked_left c.effect-effect.result (opened c.in_default.in_default-own.keys2)) c.requires.1
 
 pub returns : goal.returns
 returns c = let a = c.args in

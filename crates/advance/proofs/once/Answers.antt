@@ -5,7 +5,7 @@ use Rattle.advance.proofs.once.Goals as goal
 pub by_rule-requires : goal.by_rule-requires
 by_rule-requires c = let a = c.args in
     let left = once_left a.view a.program.now a.nodes a.t a.w.now c.node-node.result c.node-node.ensures c.hasten.result _ c.hasten.ensures c.in-None.is in
-    (c.requires.0, rw left.1 c.requires.1, left.0)
+    (rw left.1 c.requires.0, left.0)
 
 pub returns-in-Moved : goal.returns-in-Moved
 returns-in-Moved c = let a = c.args in once_moved a.view a.program.now a.nodes a.t a.w.now c.node-node.result c.node-node.ensures c.hasten.result _ c.hasten.ensures _ c.in-Moved.is

@@ -1,12 +1,6 @@
 -- `attends::attendance_of` meets its contract. Assumes nothing.
-use mathlib.Core.Path.{sym, ◌∙◌, subst}
-use Rattle.seats.specs.Seats.{DeepSeat}
-use Rattle.seats.proofs.SeatLaws.{seat_deep}
 use Rattle.attends.proofs.AttendLaws.{at_running, at_finished, at_stopped}
 use Rattle.attends.proofs.attendance_of.Goals as goal
-
-pub attends_from-requires : goal.attends_from-requires
-attends_from-requires c = let a = c.args in (subst DeepSeat (sym c.load_seat.ensures ∙ c.in-Running.is) (seat_deep a.area.now), c.requires)
 
 pub returns-in-Running : goal.returns-in-Running
 returns-in-Running c = let a = c.args in at_running a.venue.node a.venue.e a.venue.mode a.p a.room a.used a.area.now c.load_seat.result c.load_seat.ensures _ _ c.in-Running.is c.attends_from.ensures

@@ -12,9 +12,6 @@ pub returns-then-ne : goal.returns-then-ne
 unfolding same_set
 returns-then-ne c = let a = c.args in at_mode a.venue.node a.t a.venue.e a.venue.mode a.p a.room a.used a.area.now c.if-stands-venue.false (not-true _ (sym c.ne.ensures ∙ c.if-ne.true))
 
-pub invited-requires : goal.invited-requires
-invited-requires c = c.requires
-
 pub returns-in_err-invitation : goal.returns-in_err-invitation
 unfolding same_set
 returns-in_err-invitation c = let a = c.args in

@@ -1,10 +1,8 @@
 -- `concludes::conclude_one` meets its contract. Assumes nothing.
 use borrow.Enum.Refused.{opened}
-use mathlib.Core.Path.{sym, ◌∙◌, subst}
+use mathlib.Core.Path.{◌∙◌}
 use native.Mathlib.Omega.{arith}
-use Rattle.area.specs.Rows.{row_size, area_of}
-use Rattle.seats.specs.Seats.{DeepSeat}
-use Rattle.seats.proofs.SeatLaws.{seat_deep}
+use Rattle.area.specs.Rows.{row_size}
 use Rattle.area.proofs.RowLaws.{row_length}
 use Rattle.concludes.proofs.ConcludeLaws.{member_over, member_runs}
 use Rattle.concludes.proofs.conclude_one.Goals as goal
@@ -14,8 +12,7 @@ returns-in_default c = let a = c.args in
     member_over a.outcome a.p a.room a.bytes.now a.lengths.now a.work.now c.load_seat.result c.load_seat.ensures (opened c.in_default.in_default-own.keys2)
 
 pub take_part-requires : goal.take_part-requires
-take_part-requires c = let a = c.args in
-    (subst DeepSeat (sym c.load_seat.ensures ∙ c.in-Running.is) (seat_deep (area_of a.p a.work.now)), omega (arith, row_length row_size a.p a.work.now c.requires.2))
+take_part-requires c = let a = c.args in omega (arith, row_length row_size a.p a.work.now c.requires.2)
 
 pub returns : goal.returns
 returns c = let a = c.args in

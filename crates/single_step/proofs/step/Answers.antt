@@ -1,36 +1,21 @@
 -- `single_step::step` meets its contract. Assumes nothing.
 use borrow.Enum.Refused.{opened}
 use mathlib.Core.Path.{refl, sym, subst}
-use native.Mathlib.Omega.{arith}
-use Rattle.rules.specs.declared.effects.View.TheVariants.{Whole}
 use Rattle.rules.specs.declared.effects.Effect.{Effect}
 use Rattle.rules.specs.declared.effects.Effect.TheVariants.{Goes}
 use Rattle.rules.specs.RunLaws.{Sound, whole_sound}
-use Rattle.advance.proofs.AdvanceLaws.{moves_deep}
 use Rattle.single_step.specs.Steps.{Lists}
 use Rattle.single_step.proofs.StepLaws.{moved_by}
 use Rattle.single_step.proofs.PerformLaws.{goes, enters, steps_on}
 use Rattle.single_step.proofs.EffectLaws.{no_move}
 use Rattle.single_step.proofs.step.Goals as goal
 
-pub effect_of-effect-requires : goal.effect_of-effect-requires
-effect_of-effect-requires c = let a = c.args in
-    let p = c.requires in
-    let f = c.far-gone.ensures in
-    (moves_deep Whole a.program.now a.nodes a.t a.work.now _ _ f.1 p.4 f.2, omega (arith, p.5, c.work-1.given))
-
 pub entry_of-entry-requires : goal.entry_of-entry-requires
 entry_of-entry-requires c = let p = c.requires in
     let f = c.far-gone in
     let m = f.result.stand.mode in
     let r = c.effect_of-effect.ensures.asks f.ensures.1 f.ensures.3 (no_move f.result.came (opened c.in_default.in_default-own.keys2)) in
-    (p.6, p.7, subst (λ (x : Effect). Sound m x) (sym r.0) (whole_sound m _ _), r.1)
-
-pub settled-came-requires : goal.settled-came-requires
-settled-came-requires c = let a = c.args in
-    let p = c.requires in
-    let f = c.far-gone.ensures in
-    (p.1, p.2, p.3, moves_deep Whole a.program.now a.nodes a.t a.work.now _ _ f.1 p.4 f.2, omega (arith, p.5, c.work-1.given))
+    (p.5, p.6, subst (λ (x : Effect). Sound m x) (sym r.0) (whole_sound m _ _), r.1)
 
 pub returns-in_default : goal.returns-in_default
 returns-in_default c = let a = c.args in

@@ -11,7 +11,6 @@ use Rattle.sites.proofs.joined.Goals as goal
 pub act_alone-requires : goal.act_alone-requires
 act_alone-requires c = let a = c.args in
     let p = c.requires in (
-      p.7,
       omega (arith, rows a.p a.n a.room p.0, p.2),
       omega (arith, p.0, p.3),
       omega (arith, rows a.p a.n row_size p.0, p.4),

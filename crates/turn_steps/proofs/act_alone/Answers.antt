@@ -21,11 +21,11 @@ overflow_add-at c = let a = c.args in
 pub returns-then-takes_input : goal.returns-then-takes_input
 returns-then-takes_input c = let a = c.args in
     alone_by a.effect a.t a.p a.room a.inputs.now a.end.now a.at.now a.bytes.now a.lengths.now a.work.now c.next_input-input.result 1 c.act.result _ _
-    c.requires.4 c.requires.3 (c.act.auto.area ∙ row_length row_size a.p a.work.now c.requires.3) c.next_input-input.ensures
+    c.requires.3 c.requires.2 (c.act.auto.area ∙ row_length row_size a.p a.work.now c.requires.2) c.next_input-input.ensures
     (sym (ap once c.if-takes_input.true) ∙ c.takes_input.ensures) c.act.ensures
 
 pub returns-else-takes_input : goal.returns-else-takes_input
 returns-else-takes_input c = let a = c.args in
     alone_none a.effect a.t a.p a.room a.inputs.now a.end.now a.at.now a.bytes.now a.lengths.now a.work.now c.next_input-input.result 0 c.act.result _ _
-    c.requires.4 c.requires.3 (c.act.auto.area ∙ row_length row_size a.p a.work.now c.requires.3) c.next_input-input.ensures
+    c.requires.3 c.requires.2 (c.act.auto.area ∙ row_length row_size a.p a.work.now c.requires.2) c.next_input-input.ensures
     (sym (ap once c.if-takes_input.false) ∙ c.takes_input.ensures) c.act.ensures refl

@@ -1,12 +1,11 @@
 -- `advance::strides::strides`: what its loop keeps.
-use Prim.Native.Nat.{◌-◌, ◌≤◌, ◌<◌}
-use Rattle.limits.specs.Limits.{max_frames}
+use Prim.Native.Nat.{◌-◌, ◌<◌}
 use Rattle.advance.specs.Strides.{Led}
 use Rattle.advance.proofs.strides.strides.Given as goal
 
 abbrev pub invariant-loop-next : goal.invariant-loop-next
 invariant-loop-next l =
-    (l.k < l.most) × (l.t.depth.frames ≤ max_frames) × Led l.joint l.turns l.program l.nodes l.first l.k l.initial.t l.initial.work l.t l.work
+    (l.k < l.most) × Led l.joint l.turns l.program l.nodes l.first l.k l.initial.t l.initial.work l.t l.work
 
 abbrev pub decreases-loop-next : goal.decreases-loop-next
 decreases-loop-next l = l.most - l.k

@@ -8,4 +8,4 @@ returns-then-x-ge-MAX c = let a = c.args in bound_not a.x a.v a.d.frames a.w.now
 
 pub returns : goal.returns
 returns c = let a = c.args in
-    bound a.x a.v a.d.frames a.w.now c.level_at-at.result _ c.requires.0 c.requires.1 (omega arith) c.store.ensures.ranged c.level_at-at.ensures c.store.ensures.s_after
+    bound a.x a.v a.d.frames a.w.now c.level_at-at.result _ a.d.within c.requires (omega arith) c.store.ensures.ranged c.level_at-at.ensures c.store.ensures.s_after

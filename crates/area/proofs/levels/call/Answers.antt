@@ -7,4 +7,4 @@ use Rattle.area.proofs.levels.call.Goals as goal
 pub returns : goal.returns
 returns c = let a = c.args in
     let at : ℕ = c.level_at-from.result in
-    called a.f a.v a.t at (at + 144 - at) a.w.now _ _ c.requires.0 c.requires.1 c.level_at-from.ensures (omega arith) c.zero.ensures c.bind.ensures
+    called a.f a.v a.t at (at + 144 - at) a.w.now _ _ c.requires c.level_at-from.ensures (omega arith) c.zero.ensures c.bind.ensures

@@ -13,11 +13,11 @@ returns-in-Down c = rw c.in-Down.is c.put_down.ensures
 
 pub returns-in-Goto : goal.returns-in-Goto
 unfolding move control_of
-returns-in-Goto c = rw c.in-Goto.is (stands _ c.args.w.now c.requires.0)
+returns-in-Goto c = rw c.in-Goto.is (stands _ c.args.w.now)
 
 pub returns-in-Enter : goal.returns-in-Enter
 unfolding move control_of
-returns-in-Enter c = rw c.in-Enter.is (stands _ c.args.w.now c.requires.0)
+returns-in-Enter c = rw c.in-Enter.is (stands _ c.args.w.now)
 
 pub returns-in-Call : goal.returns-in-Call
 returns-in-Call c = rw c.in-Call.is c.call.ensures

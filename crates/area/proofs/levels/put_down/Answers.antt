@@ -20,4 +20,4 @@ copy_within-requires c = simp (c.store_set.auto.s, c.store2.auto.s, length-set) 
 
 pub returns : goal.returns
 returns c = let a = c.args in
-    put_down a.x a.e1 a.e2 a.t _ c.level_at-at.result a.w.now _ _ _ c.requires.1 c.ranges.e2.fits (omega arith) c.level_at-at.ensures c.store2.ensures c.store_set.ensures c.copy_within.ensures (sym c.deeper.ensures ∙ c.in-Some.is)
+    put_down a.x a.e1 a.e2 a.t _ c.level_at-at.result a.w.now _ _ _ c.requires c.ranges.e2.fits (omega arith) c.level_at-at.ensures c.store2.ensures c.store_set.ensures c.copy_within.ensures (sym c.deeper.ensures ∙ c.in-Some.is)

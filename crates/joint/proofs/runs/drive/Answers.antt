@@ -1,4 +1,5 @@
 -- `joint::runs::drive` meets its contract. Assumes nothing.
+use mathlib.Core.Path.{refl}
 use native.Mathlib.Omega.{arith}
 use borrow.Author.Rules.{rules}
 use Rattle.joint.proofs.TurnLaws.{few_turns, turns_below}
@@ -16,9 +17,9 @@ all_finished-requires c = let p = c.requires in
 pub returns-then-all_finished : goal.returns-then-all_finished
 returns-then-all_finished c = let a = c.args in
     let p = c.requires in
-    drives_complete a.program.now a.n a.nodes a.room a.counts.now a.inputs.now a.turns.now _ _ a.bytes.now a.lengths.now _ _ _ _ _ _ _ _ p.2 p.3 p.4 c.divide.ensures c.clear_lengths.ensures c.all.ensures c.open_all.ensures c.run_turns-count.ensures c.all_finished.ensures c.if-all_finished.true
+    drives_complete a.program.now a.n a.nodes a.room a.counts.now a.inputs.now a.turns.now _ _ a.bytes.now a.lengths.now _ _ _ _ _ _ _ _ _ p.2 p.3 p.4 c.divide.ensures c.clear_lengths.ensures c.all.ensures refl c.open_all.ensures c.run_turns-count.ensures c.all_finished.ensures c.if-all_finished.true
 
 pub returns-else-all_finished : goal.returns-else-all_finished
 returns-else-all_finished c = let a = c.args in
     let p = c.requires in
-    drives_open a.program.now a.n a.nodes a.room a.counts.now a.inputs.now a.turns.now _ _ a.bytes.now a.lengths.now _ _ _ _ _ _ _ _ p.2 p.3 p.4 c.divide.ensures c.clear_lengths.ensures c.all.ensures c.open_all.ensures c.run_turns-count.ensures c.all_finished.ensures c.if-all_finished.false
+    drives_open a.program.now a.n a.nodes a.room a.counts.now a.inputs.now a.turns.now _ _ a.bytes.now a.lengths.now _ _ _ _ _ _ _ _ _ p.2 p.3 p.4 c.divide.ensures c.clear_lengths.ensures c.all.ensures refl c.open_all.ensures c.run_turns-count.ensures c.all_finished.ensures c.if-all_finished.false
