@@ -4,6 +4,7 @@ use native.Mathlib.Decide.{dec_le}
 use Rattle.limits.specs.Limits.{max_frames}
 use Rattle.limits.specs.declared.Depth.{Depth}
 
+-- the count k, where it is within the limit
 abbrev pub depth_if : (k : ℕ) → Dec (k ≤ max_frames) → Option Depth
 depth_if k (yes h) = Some (record { frames = k; within = h })
 depth_if k (no f) = None

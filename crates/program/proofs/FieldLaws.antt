@@ -1,5 +1,5 @@
 -- The fields of a body: what the constructors' answers tell, and that a kind's rule is its node's `fits`. Assumes nothing.
-use mathlib.Core.Path.{◌≡◌, refl, ◌∙◌}
+use mathlib.Core.Path.{◌≡◌, refl}
 use mathlib.Core.Bool.{Bool, true, false, ◌&&◌, cond}
 use mathlib.Core.List.{List}
 use Prim.Native.Nat.{ℕ, ◌≤◌}
@@ -8,7 +8,6 @@ use native.Mathlib.Omega.{arith}
 use lib.Dec.{ltb}
 use borrow.Author.Tests.{lt-ltb, le-ltb}
 use Rattle.std.proofs.Common.{Some, None, is_some}
-use Rattle.limits.specs.Limits.{max_parties, max_names, party_of, name_of}
 use Rattle.nodes.specs.Nodes.{node_of}
 use Rattle.program.specs.Kinds.{rule_of}
 use Rattle.program.specs.Check.{fits}

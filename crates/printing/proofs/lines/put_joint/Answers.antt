@@ -1,5 +1,4 @@
 -- `printing::lines::put_joint` meets its contract. Assumes nothing.
-use native.Mathlib.Omega.{arith}
 use Rattle.text.specs.Text.{ascii}
 use Rattle.printing.specs.Lines.{joint_lines, after_joint}
 use Rattle.printing.proofs.lines.put_joint.Goals as goal

@@ -1,5 +1,4 @@
 -- `printing::lines::put_single` meets its contract. Assumes nothing.
-use native.Mathlib.Omega.{arith}
 use Rattle.text.specs.Text.{ascii}
 use Rattle.printing.specs.Lines.{single_lines, after_single}
 use Rattle.printing.proofs.lines.put_single.Goals as goal
