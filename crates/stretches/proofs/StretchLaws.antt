@@ -1,12 +1,14 @@
--- What a run of stores leaves before, in and after it; a stretch that is copied is such a run. Assumes nothing.
-use mathlib.Core.Path.{◌≡◌, refl, ap, ◌∙◌}
+-- What a run of stores leaves before, in and after it; a stretch of a list copied, byte by byte. Assumes nothing.
+use mathlib.Core.Path.{◌≡◌, refl, sym, ap, ◌∙◌}
 use mathlib.Core.List.{List, [], ◌∷◌, ◌++◌}
-use Prim.Native.Nat.{ℕ, zero, suc, ◌+◌, ◌-◌, ◌≤◌, ◌<◌}
+use mathlib.Core.Logic.{⊎_elim}
+use Prim.Native.Nat.{ℕ, zero, suc, ◌+◌, ◌≤◌, ◌<◌}
 use native.Mathlib.Nat.{add-zero, not-suc-le-zero}
+use native.Mathlib.Numerals.{add-one}
 use native.Mathlib.Omega.{arith}
-use lib.ListN.{length, get_or, set, drop, length-drop, length-set}
-use lib.Seq.{sets, sets-eq, paste, get_or-set_same, get_or-set_other, length-take-le}
-use Rattle.stretches.specs.Stretches.{stretch, copied}
+use lib.ListN.{length, get_or, set, take, drop, length-drop, length-set}
+use lib.Seq.{sets, get_or-set_same, get_or-set_other, get_or-drop, length-take-le, take-suc}
+use Rattle.stretches.specs.Stretches.{stretch, copied, Apart}
 
 -- ---- bytes before a run of stores, in it and after it
 pub sets_before : (vs w : List ℕ) (p i : ℕ) → i < p → get_or (sets w p vs) i 0 ≡ get_or w i 0
@@ -34,10 +36,24 @@ sets_append (u ∷ us) vs w p =
     rw e (sets_append us vs (set w p u) (suc p))
 
 -- ---- copy
--- what the library's copy leaves is the bytes written one after another
-pub copied_is : (xs : List ℕ) (from to n : ℕ) → from + n ≤ length xs → to + n ≤ length xs → paste xs to (drop from xs) (from + n - from) ≡ copied xs from to n
+pub copied_none : (xs : List ℕ) (from to : ℕ) → xs ≡ copied xs from to 0
 unfolding copied
-copied_is xs from to n f t =
-    let k : from + n - from ≡ n = omega arith in
-    let l : length (stretch from n xs) ≡ n = length-take-le n (drop from xs) (rw length-drop (omega arith)) in
-    rw (k, sets-eq (stretch from n xs) xs to (rw l t), l)
+copied_none xs from to = refl
+
+module _ (xs : List ℕ) (from to n i : ℕ) (hf : from + n ≤ length xs) (ht : to + n ≤ length xs) (hi : i < n) where
+  stretch_length : length (stretch from i xs) ≡ i
+  stretch_length = length-take-le i (drop from xs) (rw length-drop (omega arith))
+
+  -- the byte that is read next is still the one that stood there
+  still : Apart from to n → get_or (copied xs from to i) (from + i) 0 ≡ get_or xs (from + i) 0
+  unfolding copied
+  still a =
+      ⊎_elim (λ (h : from + n ≤ to). sets_before (stretch from i xs) xs to (from + i) (omega arith))
+      (λ (h : to + n ≤ from). sets_after (stretch from i xs) xs to (from + i) (rw stretch_length (omega arith))) a
+
+  pub copied_more : (s : List ℕ) → Apart from to n → s ≡ copied xs from to i → set s (to + i) (get_or s (from + i) 0) ≡ copied xs from to (i + 1)
+  unfolding copied
+  copied_more s a e =
+      let b : get_or s (from + i) 0 ≡ get_or (drop from xs) i 0 = ap (λ (l : List ℕ). get_or l (from + i) 0) e ∙ still a ∙ sym (get_or-drop from xs i 0) in
+      let t : take (suc i) (drop from xs) ≡ stretch from i xs ++ (get_or (drop from xs) i 0 ∷ []) = take-suc (drop from xs) i 0 (rw length-drop (omega arith)) in
+      rw (b, e, add-one, t, ← sets_append (stretch from i xs) (get_or (drop from xs) i 0 ∷ []) xs to, stretch_length)
