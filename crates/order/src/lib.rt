@@ -4,6 +4,8 @@
 ghost use Rattle.std.specs.Prelude.{◌≡◌};
 ghost use Rattle.order.specs.Order.{order_of, Continues};
 
+use std::cmp::Ordering;
+
 #[derive(Clone, Copy)]
 pub enum Order {
     FirstLonger,
@@ -12,15 +14,32 @@ pub enum Order {
     Neither,
 }
 
-#[tactic(auto, using(crate::proofs::OrderLaws::begins_is), unfolding(crate::specs::Order::order_of))]
+// The same, where their first bytes do not tell: what both have is compared, and then how long they are. A function of its own, so that those that a byte
+// tells apart do not pay for the call that compares many.
+#[inline(never)]
+fn order_alike(a: &[u8], b: &[u8]) -> Order
+    ensures { result ≡ order_of a.now b.now }
+{
+    let common = a.len().min(b.len());
+    if a[..common] != b[..common] {
+        return Order::Neither;
+    }
+    match a.len().cmp(&b.len()) {
+        Ordering::Greater => Order::FirstLonger,
+        Ordering::Less => Order::SecondLonger,
+        Ordering::Equal => Order::Equal,
+    }
+}
+
 pub fn order_of(a: &[u8], b: &[u8]) -> Order
     ensures { result ≡ order_of a.now b.now }
 {
-    match (a.starts_with(b), b.starts_with(a)) {
-        (true, true) => Order::Equal,
-        (true, false) => Order::FirstLonger,
-        (false, true) => Order::SecondLonger,
-        (false, false) => Order::Neither,
+    match (a.first(), b.first()) {
+        (None, None) => Order::Equal,
+        (Some(_), None) => Order::FirstLonger,
+        (None, Some(_)) => Order::SecondLonger,
+        (Some(x), Some(y)) if x != y => Order::Neither,
+        _ => order_alike(a, b),
     }
 }
 
