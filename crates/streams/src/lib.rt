@@ -1,7 +1,7 @@
 // What the programs read and lend: a slice filled from a reader, and places of zeros.
 #![tactic(auto)]
 
-ghost use Rattle.std.specs.Prelude.{◌≡◌, ◌<◌, length, take, IfOk, OnErr};
+ghost use Rattle.std.specs.Prelude.{◌≡◌, ◌<◌, length, take, replicate, IfOk, OnErr};
 ghost use Rattle.std.specs.Io.KnownBytes.{Consumes, IsAtEnd};
 ghost use Rattle.streams.specs.Counts.{IsPrefixLen, CutShort};
 
@@ -10,7 +10,8 @@ use std::io::Read;
 
 // So many zeros.
 pub fn zeros<const N: usize>() -> [u8; N]
-    ensures { N ≡ length result }
+    ensures len { N ≡ length result }
+    ensures filled { result ≡ replicate N 0 }
 {
     [0; N]
 }
