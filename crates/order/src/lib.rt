@@ -14,8 +14,8 @@ pub enum Order {
     Neither,
 }
 
-// The same, where their first bytes do not tell: what both have is compared, and then how long they are. A function of its own, so that those that a byte
-// tells apart do not pay for the call that compares many.
+// Which of two records goes on beyond the other, where their first bytes do not tell. A function of its own, so that a call which they answer does not pay
+// for the comparison.
 #[inline(never)]
 fn order_alike(a: &[u8], b: &[u8]) -> Order
     ensures { result ≡ order_of a.now b.now }
