@@ -6,7 +6,7 @@ use mathlib.Core.Option.{some}
 use Prim.Native.Nat.{ℕ, ◌+◌}
 use native.Mathlib.Nat.{add-zero}
 use native.Mathlib.Omega.{arith}
-use Rattle.std.specs.Prelude.{Option, Some, None}
+use Rattle.std.specs.Prelude.{Option, Some, None, Result, Ok, Err}
 use borrow.Author.Tests.{le-leb}
 use lib.Dec.{leb}
 use lib.IntN.{ℤ, pos}
@@ -165,23 +165,27 @@ module _ (ev : Event) (mv : Move) (t : Stand) (P : ℕ) (u : ℕ) (xs w : List �
         table = m.table;
       }
 
--- ---- each effect, done by itself
+-- ---- what a site is told, done by itself
 module _ (input : Option ℤ) (t : Stand) (P : Party) (u : ℕ) (xs w : List ℕ) (u' : ℕ) (xs' w' : List ℕ) where
-  pub acts_refuse : (effect : Effect) (r : Refusal) → effect ≡ Refuse r → Takes (stop (number_of r) t.node) u xs w u' xs' w' → Acts.Acts effect input t P u xs w u' xs' w'
+  pub acts_stop : (told : Result Effect ℕ) (number : ℕ) → told ≡ Err number → Takes (stop number t.node) u xs w u' xs' w' → Acts.Acts told input t P u xs w u' xs' w'
+  unfolding control_of
+  acts_stop told number q s = rw q (record { acts = λ S R b o h i n. s.took b o h; table = s.table })
+
+  pub acts_refuse : (effect : Effect) (r : Refusal) → effect ≡ Refuse r → Takes (stop (number_of r) t.node) u xs w u' xs' w' → Acts.Acts (Ok effect) input t P u xs w u' xs' w'
   unfolding acted control_of
   acts_refuse effect r q s = rw q (record { acts = λ S R b o h i n. s.took b o h; table = s.table })
 
   pub acts_goes : (effect : Effect) (mv : Move) → effect ≡ Goes mv → Takes (land t.node (move mv (control_of t w))) u xs w u' xs' w'
-      → Acts.Acts effect input t P u xs w u' xs' w'
+      → Acts.Acts (Ok effect) input t P u xs w u' xs' w'
   unfolding acted settle room_for note control_of
   acts_goes effect mv q s = rw q (record { acts = λ S R b o h i n. s.took b o h; table = s.table })
 
   pub acts_writes : (effect : Effect) (i : ℤ) → effect ≡ Writes i → Settles (Event'.Wrote i) (Hand (Clear (pos 0) t.mode)) t P u xs w u' xs' w'
-      → Acts.Acts effect input t P u xs w u' xs' w'
+      → Acts.Acts (Ok effect) input t P u xs w u' xs' w'
   unfolding acted control_of
   acts_writes effect i q s = rw q (record { acts = λ S R b o h j n. (s.settles S R).took b o h; table = s.table })
 
-  pub acts_unread : (effect : Effect) → effect ≡ Reads → input ≡ None → Takes (stop no_input t.node) u xs w u' xs' w' → Acts.Acts effect input t P u xs w u' xs' w'
+  pub acts_unread : (effect : Effect) → effect ≡ Reads → input ≡ None → Takes (stop no_input t.node) u xs w u' xs' w' → Acts.Acts (Ok effect) input t P u xs w u' xs' w'
   unfolding acted control_of read_own
   acts_unread effect q e s =
       rw q (record { acts = λ S R b o h j n. go S b b.inputs (sym e ∙ j) (s.took b o h); table = s.table })
@@ -192,7 +196,7 @@ module _ (input : Option ℤ) (t : Stand) (P : Party) (u : ℕ) (xs w : List ℕ
       go S b (i ∷ is) h k = absurd (let z : ◌≡◌ {A = ℕ} 0 1 = cc in omega arith)
 
   pub acts_reads : (effect : Effect) (i : ℤ) → effect ≡ Reads → input ≡ Some i → Settles (Event'.Read i) (Hand (Clear i t.mode)) t P u xs w u' xs' w'
-      → Acts.Acts effect input t P u xs w u' xs' w'
+      → Acts.Acts (Ok effect) input t P u xs w u' xs' w'
   unfolding acted control_of read_own
   acts_reads effect i q e s =
       rw q (record { acts = λ S R b o h j n. go S b b.inputs (sym e ∙ j) ((s.settles S R).took b o h); table = s.table })

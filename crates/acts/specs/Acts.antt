@@ -1,13 +1,14 @@
 -- What a site's act leaves of its own record, of xs with u bytes used, and of its own area w.
-use Rattle.std.specs.Prelude.{◌≡◌, ℕ, ◌+◌, ◌≤◌, List, ◌++◌, ℤ, length, take, Option}
+use Rattle.std.specs.Prelude.{◌≡◌, ℕ, ◌+◌, ◌≤◌, List, ◌++◌, ℤ, length, take, Option, Result, Ok, Err, IfOk}
 use Rattle.std.proofs.Math.Option.{some}
 use Rattle.std.proofs.lemmas.List.Edits.{sets}
 use Rattle.limits.specs.declared.Party.{Party}
 use Rattle.records.specs.Events.{written, held_back}
 use Rattle.records.specs.declared.events.Event.{Event}
 use Rattle.rules.specs.Books.{Book, used}
+use Rattle.rules.specs.Moves.{Control}
 use Rattle.rules.specs.Single.{Setting}
-use Rattle.rules.specs.Joint.{Site, land, settle, book_of}
+use Rattle.rules.specs.Joint.{Site, stop, land, settle, book_of}
 use Rattle.rules.specs.declared.effects.Move.{Move}
 use Rattle.rules.specs.declared.effects.Effect.{Effect}
 use Rattle.invariants.specs.Room.{Fits}
@@ -42,8 +43,13 @@ pub record Settles (ev : Event) (mv : Move) (t : Stand) (P : Party) (u : ℕ) (x
   pub settles : (S : Setting) → S.room ≡ length xs → Takes (λ b. settle S P.index (control_of t w) b (some ev) mv) u xs w u' xs' w'
   pub table : take table_size w' ≡ take table_size w
 
--- the site does what its own rule asks, its next input being at hand
-pub record Acts (effect : Effect) (input : Option ℤ) (t : Stand) (P : Party) (u : ℕ) (xs w : List ℕ) (u' : ℕ) (xs' w' : List ℕ) : Type 0 where
-  pub acts : (S : Setting) → S.room ≡ length xs → (b : Book) → used b ≡ u → u + held_back ≤ length xs → input ≡ head_of b.inputs → Alone (Own.Acts effect)
-      → Took b (acted S P.index (control_of t w) b effect) u xs u' xs' w'
+-- the site after what it is told: the effect of its own rule, or a stop by any number
+abbrev pub obeyed : Setting → ℕ → Control → Book → Result Effect ℕ → Site
+obeyed S P c b (Ok effect) = acted S P c b effect
+obeyed S P c b (Err number) = stop number c.node b
+
+-- the site does what it is told, its next input being at hand
+pub record Acts (told : Result Effect ℕ) (input : Option ℤ) (t : Stand) (P : Party) (u : ℕ) (xs w : List ℕ) (u' : ℕ) (xs' w' : List ℕ) : Type 0 where
+  pub acts : (S : Setting) → S.room ≡ length xs → (b : Book) → used b ≡ u → u + held_back ≤ length xs → input ≡ head_of b.inputs → IfOk told (λ effect. Alone (Own.Acts effect))
+      → Took b (obeyed S P.index (control_of t w) b told) u xs u' xs' w'
   pub table : take table_size w' ≡ take table_size w

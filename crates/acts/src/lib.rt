@@ -1,7 +1,7 @@
 // What a site does, in its own area and its own record. Each function answers how many bytes of the record are then used.
 #![tactic(auto)]
 
-ghost use Rattle.std.specs.Prelude.{◌≤◌, length};
+ghost use Rattle.std.specs.Prelude.{◌≤◌, length, IfOk};
 ghost use Rattle.values.specs.Values.{slice};
 ghost use Rattle.refusals.specs.Numbers.{number_of};
 ghost use Rattle.rules.specs.Books.{handed, event_of};
@@ -20,12 +20,20 @@ use rules::effects::{Effect, Meeting, Move};
 use seats::Seat;
 use values::value::Value;
 
-pub fn stop(refusal: Refusal, node: u16, used: usize, bytes: &mut [u8], area: &mut [u8]) -> usize
+// The site stops by a number. Any will do, as in the event that notes it: a refusal's or not.
+pub fn stop(number: u8, node: u16, used: usize, bytes: &mut [u8], area: &mut [u8]) -> usize
+    requires { row_size ≤ length area.old }
+    ensures { Takes (stop number node) used bytes.old area.old result bytes.new area.new }
+{
+    seats::save_seat(Seat::Stopped, area);
+    Event::Stopped(number, node).close(bytes, used)
+}
+
+fn refuse(refusal: Refusal, node: u16, used: usize, bytes: &mut [u8], area: &mut [u8]) -> usize
     requires { row_size ≤ length area.old }
     ensures { Takes (stop (number_of refusal) node) used bytes.old area.old result bytes.new area.new }
 {
-    seats::save_seat(Seat::Stopped, area);
-    Event::Stopped(u8::from(refusal), node).close(bytes, used)
+    stop(u8::from(refusal), node, used, bytes, area)
 }
 
 fn finish(v: Value, used: usize, bytes: &mut [u8], area: &mut [u8]) -> usize
@@ -47,7 +55,7 @@ pub fn land(next: Next, node: u16, used: usize, bytes: &mut [u8], area: &mut [u8
             used
         }
         Next::Ends(v) => finish(v, used, bytes, area),
-        Next::Full => stop(Refusal::TooDeep, node, used, bytes, area),
+        Next::Full => refuse(Refusal::TooDeep, node, used, bytes, area),
     }
 }
 
@@ -75,7 +83,7 @@ fn settle(
 {
     let node = t.node;
     let Some(next) = ledger::entries::event_for(p, ev).append(bytes, used) else {
-        return stop(Refusal::NoRoom, node, used, bytes, area);
+        return refuse(Refusal::NoRoom, node, used, bytes, area);
     };
     hand_back(v, t, next, bytes, area)
 }
@@ -98,9 +106,9 @@ pub fn join(
     settle(ev, own, t, p, used, bytes, area)
 }
 
-// The effect of the site's own rule, done; `input` is its next input, if any is left. A meeting is nothing that a site does by itself, and of a move nothing is left to do.
+// What the site is told, done: the effect of its own rule, or a stop by any number. `input` is its next input, if any is left. A meeting is nothing that a site does by itself, and of a move nothing is left to do.
 pub fn act(
-    effect: Effect,
+    told: Result<Effect, u8>,
     t: Stand,
     p: Party,
     input: Option<i32>,
@@ -108,17 +116,21 @@ pub fn act(
     bytes: &mut [u8],
     area: &mut [u8],
 ) -> usize
-    requires { (row_size ≤ length area.old) × Asked effect }
-    ensures { Acts effect input t p used bytes.old area.old result bytes.new area.new }
+    requires { (row_size ≤ length area.old) × IfOk told Asked }
+    ensures { Acts told input t p used bytes.old area.old result bytes.new area.new }
 {
     let m = t.mode;
     let node = t.node;
+    let effect = match told {
+        Ok(effect) => effect,
+        Err(number) => return stop(number, node, used, bytes, area),
+    };
     match effect {
-        Effect::Refuse(refusal) => stop(refusal, node, used, bytes, area),
+        Effect::Refuse(refusal) => refuse(refusal, node, used, bytes, area),
         Effect::Goes(_) => used,
         Effect::Reads => {
             let Some(i) = input else {
-                return stop(Refusal::NoInput, node, used, bytes, area);
+                return refuse(Refusal::NoInput, node, used, bytes, area);
             };
             settle(Event::Read(i), Value::Clear(i, m), t, p, used, bytes, area)
         }

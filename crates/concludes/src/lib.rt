@@ -35,7 +35,7 @@ fn take_part(
     let node = t.node;
     match outcome {
         Some(joined) => acts::join(joined.meeting, joined.number, t, p, used, bytes, area),
-        None => acts::stop(Refusal::Disagreement, node, used, bytes, area),
+        None => acts::stop(u8::from(Refusal::Disagreement), node, used, bytes, area),
     }
 }
 

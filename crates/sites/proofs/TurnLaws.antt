@@ -8,7 +8,7 @@ use Rattle.std.specs.Prelude.{Option}
 use lib.IntN.{ℤ}
 use lib.ListN.{length, get_or, set, take, drop}
 use lib.Seq.{set-get_or, take_at, drop_at, length-take-le}
-use Rattle.std.specs.Prelude.{Option, Some, None}
+use Rattle.std.specs.Prelude.{Option, Some, None, Ok}
 use Rattle.nodes.specs.Nodes.{joint_node, IsJoint}
 use Rattle.nodes.specs.declared.Node.{Node}
 use Rattle.nodes.specs.declared.JointNode.{JointNode}
@@ -107,7 +107,7 @@ module _ (bs : List ℕ) (nodes P n room : ℕ) (is : List ℤ) (end at bytes le
         ap (λ (s : Site). turn_at (setting_of G.program room) P s J) (stands_at G J inside st)
         ∙ ap (λ (o : Own). turn_own (setting_of G.program room) P (control_of t (area_of P work)) o J) (does_own G J inside st)
 
-    turn_acts : (effect : Effect) (at' bytes' lengths' work' : List ℕ) → r ≡ Acts effect → Alone r → ActsAlone effect t P room is end at bytes lengths work at' bytes' lengths' work'
+    turn_acts : (effect : Effect) (at' bytes' lengths' work' : List ℕ) → r ≡ Acts effect → Alone r → ActsAlone (Ok effect) t P room is end at bytes lengths work at' bytes' lengths' work'
         → Turns bs nodes P n room is end true at bytes lengths work at' bytes' lengths' work'
     unfolding turn_own
     turn_acts effect at' bytes' lengths' work' q alone k =
@@ -122,7 +122,7 @@ module _ (bs : List ℕ) (nodes P n room : ℕ) (is : List ℤ) (end at bytes le
 
   -- it does what its rule asks for
   turn_asked : (t : Stand) → Running t ≡ seat_at (area_of P work) → (effect : Effect) → effect ≡ rule_at (View'.Site (record { index = P })) bs nodes t (area_of P work) → Unmet effect
-      → (at' bytes' lengths' work' : List ℕ) → ActsAlone effect t P room is end at bytes lengths work at' bytes' lengths' work'
+      → (at' bytes' lengths' work' : List ℕ) → ActsAlone (Ok effect) t P room is end at bytes lengths work at' bytes' lengths' work'
       → Turns bs nodes P n room is end true at bytes lengths work at' bytes' lengths' work'
   turn_asked t sits effect asks none at' bytes' lengths' work' = turn_acts t sits (Acts effect) (does_asked t effect asks none) effect at' bytes' lengths' work' refl none
 
@@ -132,7 +132,7 @@ module _ (bs : List ℕ) (nodes P n room : ℕ) (is : List ℤ) (end at bytes le
     does_joint : IsJoint node → Does t r
     does_joint joint p g len places b q = owns.comes p (read ∙ ap joint_node (node_here t.node p g len places)) joint b q
 
-    pub joined_acts : (effect : Effect) (at' bytes' lengths' work' : List ℕ) → r ≡ Acts effect → ActsAlone effect t P room is end at bytes lengths work at' bytes' lengths' work'
+    pub joined_acts : (effect : Effect) (at' bytes' lengths' work' : List ℕ) → r ≡ Acts effect → ActsAlone (Ok effect) t P room is end at bytes lengths work at' bytes' lengths' work'
         → TurnsJoined bs nodes t P n room is end true at bytes lengths work at' bytes' lengths' work'
     joined_acts effect at' bytes' lengths' work' q k = record { comes = λ sits joint. turn_acts t sits r (does_joint (rw read joint)) effect at' bytes' lengths' work' q owns.alone k }
 
@@ -162,7 +162,7 @@ turn_landed bs nodes P n room is end at bytes lengths work t sits next w1 advanc
     let m = step_lands bs nodes t (record { index = P }) (get_or lengths P 0) (row room P bytes) (area_of P work) w1 next u' ys ws advances lands in
     let input : Option ℤ = head_of (take (get_or end P 0 - get_or at P 0) (drop (get_or at P 0) is)) in
     turn_asked bs nodes P n room is end at bytes lengths work t sits (Goes m.0) m.1 tt at (back room P bytes ys) (set lengths P u') (back row_size P work ws)
-    (alone_none (Goes m.0) t P room is end at bytes lengths work input 0 u' ys ws place long area refl refl
+    (alone_none (Ok (Goes m.0)) t P room is end at bytes lengths work input 0 u' ys ws place long area refl refl
     (acts_goes input t (record { index = P }) (get_or lengths P 0) (row room P bytes) (area_of P work) u' ys ws (Goes m.0) m.0 refl m.2) refl)
 
 -- ---- among the rows
@@ -230,7 +230,7 @@ module _ (bs : List ℕ) (nodes P n room : ℕ) (is : List ℤ) (end at bytes le
           }
 
       -- its rule asks for more than a move
-      pub came_asked : (effect : Effect) (at' bytes' lengths' work' : List ℕ) → did.came ≡ Asks effect → ActsAlone effect did.stand P room is end at bytes lengths work at' bytes' lengths' work'
+      pub came_asked : (effect : Effect) (at' bytes' lengths' work' : List ℕ) → did.came ≡ Asks effect → ActsAlone (Ok effect) did.stand P room is end at bytes lengths work at' bytes' lengths' work'
           → TurnsCame bs nodes (Some did) P n room is end true at bytes lengths work at' bytes' lengths' work'
       came_asked effect at' bytes' lengths' work' q k =
           record {

@@ -44,7 +44,7 @@ fn joined(
     match site::own::own_at(node, party, t, room, used, &work[from..to]) {
         Own::Attends(mt, _) => turn_steps::meet(venue, mt, n, room, bytes, lengths, work),
         Own::Acts(own) => {
-            turn_steps::act_alone(own, t, p, room, inputs, at, end, bytes, lengths, work);
+            turn_steps::act_alone(Ok(own), t, p, room, inputs, at, end, bytes, lengths, work);
             true
         }
     }
@@ -107,7 +107,16 @@ pub fn turn(
         }
         Advanced::Asks(effect) => {
             turn_steps::act_alone(
-                effect, stand, p, room, inputs, at, end, bytes, lengths, work,
+                Ok(effect),
+                stand,
+                p,
+                room,
+                inputs,
+                at,
+                end,
+                bytes,
+                lengths,
+                work,
             );
             true
         }

@@ -6,7 +6,7 @@ use mathlib.Core.Option.{Option, none, some}
 use Prim.Native.Nat.{ℕ, zero, suc, ◌+◌, ◌-◌, ◌<◌}
 use native.Mathlib.Decide.{ℕ_discrete}
 use native.Mathlib.Omega.{arith}
-use Rattle.std.specs.Prelude.{Option as Option'}
+use Rattle.std.specs.Prelude.{Option as Option', Result, Ok, Err}
 use lib.IntN.{ℤ, pos}
 use lib.ListN.{length, get_or, set, take, drop}
 use lib.Seq.{take-nil, drop-drop, get_or-set_same, get_or-set_other}
@@ -29,6 +29,7 @@ use Rattle.invariants.proofs.BookLaws.{none_taken}
 use Rattle.invariants.proofs.MeetingLaws.{meeting_each}
 use Rattle.inputs.specs.Inputs.{head_of}
 use Rattle.site.specs.Own.{acted}
+use Rattle.acts.specs.Acts.{obeyed}
 use Rattle.meets.specs.Places.{InputsOf, InputsStand}
 use Rattle.turn_steps.specs.Steps.{taken_by}
 
@@ -53,18 +54,19 @@ settle_inputs S P c b o mv = go (room_for S.room P o b)
     go false = tt
 
 -- what a site does by itself takes the inputs that it is said to take
-pub acted_inputs : (S : Setting) (P : ℕ) (c : Control) (b : Book) (effect : Effect) (input : Option' ℤ) → input ≡ head_of b.inputs
-    → ToCome (drop (taken_by effect input) b.inputs) (acted S P c b effect)
+pub acted_inputs : (S : Setting) (P : ℕ) (c : Control) (b : Book) (told : Result Effect ℕ) (input : Option' ℤ) → input ≡ head_of b.inputs
+    → ToCome (drop (taken_by told input) b.inputs) (obeyed S P c b told)
 unfolding acted read_own note add event_for
-acted_inputs S P c b (Refuse r) input h = tt
-acted_inputs S P c b (Goes mv) input h = settle_inputs S P c b none mv
-acted_inputs S P c b Reads input h = go b.inputs input h refl
+acted_inputs S P c b (Ok (Refuse r)) input h = tt
+acted_inputs S P c b (Ok (Goes mv)) input h = settle_inputs S P c b none mv
+acted_inputs S P c b (Ok Reads) input h = go b.inputs input h refl
   where
-    go : (is : List ℤ) (x : Option' ℤ) → x ≡ head_of is → is ≡ b.inputs → ToCome (drop (taken_by Reads x) b.inputs) (read_own S P c b is)
+    go : (is : List ℤ) (x : Option' ℤ) → x ≡ head_of is → is ≡ b.inputs → ToCome (drop (taken_by (Ok Reads) x) b.inputs) (read_own S P c b is)
     go [] x e q = tt
     go (i ∷ is) x e q = rw e (settle_inputs S P c b (some (Read i)) (Hand (Clear i c.mode)))
-acted_inputs S P c b (Writes i) input h = settle_inputs S P c b (some (Wrote i)) (Hand (Clear (pos 0) c.mode))
-acted_inputs S P c b (Meets mt o) input h = refl
+acted_inputs S P c b (Ok (Writes i)) input h = settle_inputs S P c b (some (Wrote i)) (Hand (Clear (pos 0) c.mode))
+acted_inputs S P c b (Ok (Meets mt o)) input h = refl
+acted_inputs S P c b (Err number) input h = tt
 
 -- ---- inputs in the lent list
 drop_take : (k m : ℕ) (xs : List ℤ) → drop k (take m xs) ≡ take (m - k) (drop k xs)
@@ -109,17 +111,17 @@ module _ (is : List ℤ) (end at : List ℕ) (n : ℕ) (J : Sites) (h : InputsSt
       (λ i b q Q s. inputs_joined is end at Q S i s) P (h P l)
 
 -- ---- site P acted by itself, and its next input is k further on
-pub acted_stand : (is : List ℤ) (end at : List ℕ) (n : ℕ) (J J' : Sites) (P : ℕ) (S : Setting) (c : Control) (b : Book) (effect : Effect) (input : Option' ℤ) (k : ℕ) → P < length at
-    → InputsStand is end n at J → P < n → J P ≡ running c b → J' P ≡ acted S P c b effect → ((Q : ℕ) → (Q ≡ P → ⊥) → J' Q ≡ J Q) → input ≡ head_of b.inputs → k ≡ taken_by effect input
+pub acted_stand : (is : List ℤ) (end at : List ℕ) (n : ℕ) (J J' : Sites) (P : ℕ) (S : Setting) (c : Control) (b : Book) (told : Result Effect ℕ) (input : Option' ℤ) (k : ℕ) → P < length at
+    → InputsStand is end n at J → P < n → J P ≡ running c b → J' P ≡ obeyed S P c b told → ((Q : ℕ) → (Q ≡ P → ⊥) → J' Q ≡ J Q) → input ≡ head_of b.inputs → k ≡ taken_by told input
     → InputsStand is end n (set at P (get_or at P 0 + k)) J'
-acted_stand is end at n J J' P S c b effect input k place h inside runs own others head e Q l =
+acted_stand is end at n J J' P S c b told input k place h inside runs own others head e Q l =
     elim (ℕ_discrete Q P) [
       | yes q ↦
           let at' : List ℕ = set at P (get_or at P 0 + k) in
           let same : b.inputs ≡ take (get_or end P 0 - get_or at P 0) (drop (get_or at P 0) is) = subst (InputsOf is end at P) runs (h P inside) in
-          let moved : drop (taken_by effect input) b.inputs ≡ take (get_or end P 0 - get_or at' P 0) (drop (get_or at' P 0) is)
+          let moved : drop (taken_by told input) b.inputs ≡ take (get_or end P 0 - get_or at' P 0) (drop (get_or at' P 0) is)
           = rw (get_or-set_same at P (get_or at P 0 + k) 0 place, ← e, same) (shift k (get_or end P 0) (get_or at P 0) is) in
-          rw q (rw own (inputs_of is end at P (acted S P c b effect) (drop (taken_by effect input) b.inputs) at' (acted_inputs S P c b effect input head) moved))
+          rw q (rw own (inputs_of is end at P (obeyed S P c b told) (drop (taken_by told input) b.inputs) at' (acted_inputs S P c b told input head) moved))
       | no d ↦ rw (others Q d) (elsewhere (J Q) (h Q l) (sym (get_or-set_other at P Q (get_or at P 0 + k) 0 d)))
     ]
   where

@@ -1,7 +1,7 @@
 // What a turn comes to: a meeting of all members, or what a site does by itself.
 #![tactic(auto)]
 
-ghost use Rattle.std.specs.Prelude.{◌≡◌, ◌*◌, ◌+◌, ◌≤◌, ◌<◌, length};
+ghost use Rattle.std.specs.Prelude.{◌≡◌, ◌*◌, ◌+◌, ◌≤◌, ◌<◌, length, IfOk};
 ghost use Rattle.limits.specs.Limits.{max_parties};
 ghost use Rattle.area.specs.Rows.{row_size};
 ghost use Rattle.advance.specs.Advances.{Asked};
@@ -40,16 +40,16 @@ pub fn meet(
     true
 }
 
-// A site takes an input by what it does.
-fn takes_input(effect: Effect, input: Option<i32>) -> bool
-    ensures { once result ≡ taken_by effect input }
+// A site takes an input by what it is told.
+fn takes_input(told: Result<Effect, u8>, input: Option<i32>) -> bool
+    ensures { once result ≡ taken_by told input }
 {
-    matches!(effect, Effect::Reads) && input.is_some()
+    matches!(told, Ok(Effect::Reads)) && input.is_some()
 }
 
-// Site p, which stands at t, does what its own rule asks.
+// Site p, which stands at t, does what it is told: what its own rule asks, or a stop by any number.
 pub fn act_alone(
-    effect: Effect,
+    told: Result<Effect, u8>,
     t: Stand,
     p: u8,
     room: usize,
@@ -60,8 +60,8 @@ pub fn act_alone(
     lengths: &mut [usize],
     work: &mut [u8],
 )
-    requires { (p * room + room ≤ length bytes.old) × (p < length lengths.old) × (p * row_size + row_size ≤ length work.old) × (p < length at.old) × (p < length end.now) × Asked effect }
-    ensures { ActsAlone effect t p room inputs.now end.now at.old bytes.old lengths.old work.old at.new bytes.new lengths.new work.new }
+    requires { (p * room + room ≤ length bytes.old) × (p < length lengths.old) × (p * row_size + row_size ≤ length work.old) × (p < length at.old) × (p < length end.now) × IfOk told Asked }
+    ensures { ActsAlone told t p room inputs.now end.now at.old bytes.old lengths.old work.old at.new bytes.new lengths.new work.new }
 {
     let i = p as usize;
     let input = inputs::next_input(i, inputs, at, end);
@@ -71,7 +71,7 @@ pub fn act_alone(
     let to = from + ROW;
     let used = lengths[i];
     lengths[i] = acts::act(
-        effect,
+        told,
         t,
         Party { index: p },
         input,
@@ -79,7 +79,7 @@ pub fn act_alone(
         &mut bytes[start..stop],
         &mut work[from..to],
     );
-    if takes_input(effect, input) {
+    if takes_input(told, input) {
         at[i] = at[i] + 1;
     }
 }

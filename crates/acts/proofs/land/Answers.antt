@@ -9,4 +9,4 @@ pub returns-in-Ends : goal.returns-in-Ends
 returns-in-Ends c = let a = c.args in lands_end a.node a.used a.bytes.now a.area.now a.next _ c.finish.result _ _ c.in-Ends.is c.finish.ensures
 
 pub returns-in-Full : goal.returns-in-Full
-returns-in-Full c = let a = c.args in lands_full a.node a.used a.bytes.now a.area.now a.next c.stop.result _ _ c.in-Full.is c.stop.ensures
+returns-in-Full c = let a = c.args in lands_full a.node a.used a.bytes.now a.area.now a.next c.refuse.result _ _ c.in-Full.is c.refuse.ensures

@@ -7,8 +7,8 @@ pub returns-in_default : goal.returns-in_default
 returns-in_default c = let a = c.args in
     record {
       settles = λ S R. lacks a.ev (Hand a.v) a.t a.p.index a.used a.bytes.now a.area.now S R c.event_for.result c.event_for.ensures
-          c.stop.result _ _ _ (rw c.in_default.is at c.append.ensures) c.stop.ensures;
-      table = c.stop.ensures.table;
+          c.refuse.result _ _ _ (rw c.in_default.is at c.append.ensures) c.refuse.ensures;
+      table = c.refuse.ensures.table;
     }
 
 pub returns : goal.returns
