@@ -1,13 +1,24 @@
--- What the lines are put from: an answer of the code, the records and the lengths; and how much they may be. Assumes nothing.
-use Rattle.std.specs.Prelude.{ℕ, ◌+◌, ◌*◌, ◌/◌, ◌≤◌, ◌<◌, List, [], length, get_or, Result, Ok, Err}
+-- What the lines are put from: what the answer's line tells, the records and the lengths; and how much they may be. Assumes nothing.
+use Rattle.std.specs.Prelude.{ℕ, ◌+◌, ◌*◌, ◌/◌, ◌≤◌, ◌<◌, List, [], length, get_or}
 use Rattle.limits.specs.Limits.{max_parties}
-use Rattle.refusals.specs.declared.Refused.{Refused}
 use Rattle.rules.specs.Lent.{Left}
-use Rattle.rules.specs.Calls.{SingleAnswer, JointAnswer}
-use Rattle.single.specs.Runs as SingleRuns
-use Rattle.joint.specs.Runs as JointRuns
-use Rattle.single.specs.declared.runs.Answer as SingleAnswers
-use Rattle.joint.specs.declared.runs.Answer as JointAnswers
+use Rattle.rules.specs.Calls.{SingleAnswer, JointAnswer, refused, stopped_at, ended_after, budget_used, complete, still_open}
+use Rattle.printing.specs.declared.lines.SingleLine.{SingleLine}
+use Rattle.printing.specs.declared.lines.SingleLine.TheVariants as SingleLine'
+use Rattle.printing.specs.declared.lines.JointLine.{JointLine}
+use Rattle.printing.specs.declared.lines.JointLine.TheVariants as JointLine'
+
+-- what a line says, in document 01's numbers
+abbrev pub single_said : SingleLine → SingleAnswer
+single_said (SingleLine'.Refused number place) = refused number place
+single_said (SingleLine'.Stopped number node steps) = stopped_at number node steps
+single_said (SingleLine'.Ended steps) = ended_after steps
+single_said (SingleLine'.Budget steps) = budget_used steps
+
+abbrev pub joint_said : JointLine → JointAnswer
+joint_said (JointLine'.Refused number place) = refused number place
+joint_said (JointLine'.Complete turns) = complete turns
+joint_said (JointLine'.Open turns) = still_open turns
 
 -- what a call leaves, as far as a line shows it: the answer, the records and the lengths, and no working area
 abbrev pub shown : {A : Type 0} → A → (records lengths : List ℕ) → Left A
@@ -17,11 +28,11 @@ shown a records lengths = record { answer = a; records = records; lengths = leng
 abbrev pub unanswered : (records lengths : List ℕ) → Left Unit
 unanswered = shown tt
 
-abbrev pub single_shown : Result SingleAnswers.Answer Refused → (records lengths : List ℕ) → Left SingleAnswer
-single_shown a = shown (SingleRuns.told a)
+abbrev pub single_shown : SingleLine → (records lengths : List ℕ) → Left SingleAnswer
+single_shown line = shown (single_said line)
 
-abbrev pub joint_shown : Result JointAnswers.Answer Refused → (records lengths : List ℕ) → Left JointAnswer
-joint_shown a = shown (JointRuns.told a)
+abbrev pub joint_shown : JointLine → (records lengths : List ℕ) → Left JointAnswer
+joint_shown line = shown (joint_said line)
 
 -- ---- how much there may be
 
@@ -37,13 +48,13 @@ pub record Fit (n : ℕ) (records lengths : List ℕ) : Type 0 where
   pub small : length records ≤ max_records
 
 -- after `refused` no record is shown
-abbrev pub single_fits : Result SingleAnswers.Answer Refused → (n : ℕ) → (records lengths : List ℕ) → Type 0
-single_fits (Err e) n records lengths = Unit
-single_fits (Ok ran) n records lengths = Fit n records lengths
+abbrev pub single_fits : SingleLine → (n : ℕ) → (records lengths : List ℕ) → Type 0
+single_fits (SingleLine'.Refused number place) n records lengths = Unit
+single_fits line n records lengths = Fit n records lengths
 
-abbrev pub joint_fits : Result JointAnswers.Answer Refused → (n : ℕ) → (records lengths : List ℕ) → Type 0
-joint_fits (Err e) n records lengths = Unit
-joint_fits (Ok ran) n records lengths = Fit n records lengths
+abbrev pub joint_fits : JointLine → (n : ℕ) → (records lengths : List ℕ) → Type 0
+joint_fits (JointLine'.Refused number place) n records lengths = Unit
+joint_fits line n records lengths = Fit n records lengths
 
 -- ---- how long the lines may be
 

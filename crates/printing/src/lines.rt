@@ -1,12 +1,31 @@
 // The lines of what a call leaves: its answer, and each party's record. The two runs come out in different ways, and a trait over
 // both would be longer than an arm for each.
 ghost use Rattle.std.specs.Prelude.{◌+◌, ◌*◌, ◌≤◌, ◌++◌, length};
-ghost use Rattle.refusals.specs.Numbers.{number_of};
 ghost use Rattle.text.specs.Text.{Puts};
 ghost use Rattle.printing.specs.Lines.{one_number, two_numbers, party_line, record_lines, single_lines, joint_lines};
 ghost use Rattle.printing.specs.Shown.{Fit, most_of_party, most_of_records, most_of_one, unanswered, single_fits, single_shown, joint_fits, joint_shown};
 
-use refusals::Refused;
+// What the line of a single run tells, in document 01's numbers: `SingleAnswer` in code. Any number is printed.
+#[derive(Clone, Copy)]
+pub enum SingleLine {
+    // the refusal's number, and its place
+    Refused(u8, usize),
+    // the refusal's number, the node, and the steps taken before
+    Stopped(u8, u16, u32),
+    // the steps
+    Ended(u32),
+    Budget(u32),
+}
+
+// What the line of a joint run tells: `JointAnswer` in code.
+#[derive(Clone, Copy)]
+pub enum JointLine {
+    // the refusal's number, and its place
+    Refused(u8, usize),
+    // the turns at which a site stepped or stopped
+    Complete(u32),
+    Open(u32),
+}
 
 // A line of a word and a number.
 fn put_one(word: &[u8], x: u64, out: &mut [u8], at: usize) -> usize
@@ -26,20 +45,6 @@ fn put_two(word: &[u8], x: u64, y: u64, out: &mut [u8], at: usize) -> usize
     let end = text::plain::put(out, at, word);
     let end_x = text::decimals::put_decimal(out, end, x);
     put_one(b" ", y, out, end_x)
-}
-
-// The line of a refused call: a word, the refusal's number and its place.
-fn put_refused(word: &[u8], refused: Refused, out: &mut [u8], at: usize) -> usize
-    requires { at + (length word.now + 42) ≤ length out.old }
-    ensures { Puts (two_numbers word.now (number_of refused.refusal) refused.place) at result out.old out.new }
-{
-    put_two(
-        word,
-        u8::from(refused.refusal) as u64,
-        refused.place as u64,
-        out,
-        at,
-    )
 }
 
 // A party's line: its number and its record.
@@ -84,28 +89,30 @@ fn put_counted(
     put_records(n, records, lengths, out, end)
 }
 
-// What a single run that was not refused leaves.
-fn put_single_run(
-    ran: single::runs::Answer,
+// What the single run leaves.
+pub fn put_single(
+    line: SingleLine,
     n: u8,
     records: &[u8],
     lengths: &[usize],
     out: &mut [u8],
     at: usize,
 ) -> usize
-    requires { Fit n records.now lengths.now × (at + most_of_one ≤ length out.old) }
-    ensures { Puts (single_lines n (single_shown (Ok ran) records.now lengths.now)) at result out.old out.new }
+    requires { single_fits line n records.now lengths.now × (at + most_of_one ≤ length out.old) }
+    ensures { Puts (single_lines n (single_shown line records.now lengths.now)) at result out.old out.new }
 {
-    match ran {
-        single::runs::Answer::Stopped(refusal, node, _) => {
-            let number = u8::from(refusal);
+    match line {
+        SingleLine::Refused(number, place) => {
+            put_two(b"single refused ", number as u64, place as u64, out, at)
+        }
+        SingleLine::Stopped(number, node, _) => {
             let end = put_two(b"single stopped ", number as u64, node as u64, out, at);
             put_records(n, records, lengths, out, end)
         }
-        single::runs::Answer::Ended(steps) => {
+        SingleLine::Ended(steps) => {
             put_counted(b"single ended ", steps as u64, n, records, lengths, out, at)
         }
-        single::runs::Answer::Budget(steps) => {
+        SingleLine::Budget(steps) => {
             put_counted(
                 b"single budget ",
                 steps as u64,
@@ -119,38 +126,23 @@ fn put_single_run(
     }
 }
 
-// What the single run leaves.
-pub fn put_single(
-    answer: Result<single::runs::Answer, Refused>,
+// What the joint run leaves.
+pub fn put_joint(
+    line: JointLine,
     n: u8,
     records: &[u8],
     lengths: &[usize],
     out: &mut [u8],
     at: usize,
 ) -> usize
-    requires { single_fits answer n records.now lengths.now × (at + most_of_one ≤ length out.old) }
-    ensures { Puts (single_lines n (single_shown answer records.now lengths.now)) at result out.old out.new }
+    requires { joint_fits line n records.now lengths.now × (at + most_of_one ≤ length out.old) }
+    ensures { Puts (joint_lines n (joint_shown line records.now lengths.now)) at result out.old out.new }
 {
-    match answer {
-        Ok(ran) => put_single_run(ran, n, records, lengths, out, at),
-        Err(refused) => put_refused(b"single refused ", refused, out, at),
-    }
-}
-
-// What a joint run that was not refused leaves.
-fn put_joint_run(
-    ran: joint::runs::Answer,
-    n: u8,
-    records: &[u8],
-    lengths: &[usize],
-    out: &mut [u8],
-    at: usize,
-) -> usize
-    requires { Fit n records.now lengths.now × (at + most_of_one ≤ length out.old) }
-    ensures { Puts (joint_lines n (joint_shown (Ok ran) records.now lengths.now)) at result out.old out.new }
-{
-    match ran {
-        joint::runs::Answer::Complete(turns) => {
+    match line {
+        JointLine::Refused(number, place) => {
+            put_two(b"joint refused ", number as u64, place as u64, out, at)
+        }
+        JointLine::Complete(turns) => {
             put_counted(
                 b"joint complete ",
                 turns as u64,
@@ -161,26 +153,8 @@ fn put_joint_run(
                 at,
             )
         }
-        joint::runs::Answer::Open(turns) => {
+        JointLine::Open(turns) => {
             put_counted(b"joint open ", turns as u64, n, records, lengths, out, at)
         }
-    }
-}
-
-// What the joint run leaves.
-pub fn put_joint(
-    answer: Result<joint::runs::Answer, Refused>,
-    n: u8,
-    records: &[u8],
-    lengths: &[usize],
-    out: &mut [u8],
-    at: usize,
-) -> usize
-    requires { joint_fits answer n records.now lengths.now × (at + most_of_one ≤ length out.old) }
-    ensures { Puts (joint_lines n (joint_shown answer records.now lengths.now)) at result out.old out.new }
-{
-    match answer {
-        Ok(ran) => put_joint_run(ran, n, records, lengths, out, at),
-        Err(refused) => put_refused(b"joint refused ", refused, out, at),
     }
 }

@@ -2,24 +2,21 @@
 use mathlib.Core.Path.{◌≡◌, ◌∙◌}
 use Prim.Native.Nat.{ℕ, ◌*◌, ◌≤◌}
 use mathlib.Core.List.{List}
-use Rattle.std.specs.Prelude.{Some, None, Result}
-use Rattle.refusals.specs.declared.Refused.{Refused}
+use Rattle.std.specs.Prelude.{Some, None}
 use native.Mathlib.Omega.{arith}
 use lib.IntN.{ℤ}
 use lib.ListN.{length, length-replicate}
 use Rattle.program.specs.Answer.{check_answer}
-use Rattle.rules.specs.Lent.{Lent}
+use Rattle.rules.specs.Lent.{Lent, Is}
 use Rattle.rules.specs.Calls.{single_call, joint_call}
-use Rattle.single.specs.Runs as SingleRuns
-use Rattle.single.specs.declared.runs.Answer as SingleAnswers
-use Rattle.joint.specs.Runs as JointRuns
-use Rattle.joint.specs.declared.runs.Answer as JointAnswers
 use Rattle.text.specs.Text.{ascii, Puts}
 use Rattle.text.specs.TextLaws.{puts_then}
 use Rattle.cases.specs.Input.{Case, parsed}
 use Rattle.cases.specs.declared.lending.Lending.{Lending}
 use Rattle.printing.specs.Lines.{single_lines, joint_lines}
-use Rattle.printing.specs.Shown.{max_records, most_of_one, single_shown, joint_shown, single_fits, joint_fits}
+use Rattle.printing.specs.declared.lines.SingleLine.{SingleLine}
+use Rattle.printing.specs.declared.lines.JointLine.{JointLine}
+use Rattle.printing.specs.Shown.{max_records, most_of_one, single_said, joint_said, single_shown, joint_shown, single_fits, joint_fits}
 use Rattle.rehearsal.specs.Both.{parties_of, filled, single_printed, joint_printed, shown_case, shown}
 use Rattle.rehearsal.specs.Spaces.{Filled, PutsAtMost}
 use Rattle.printing.proofs.ShownLaws.{single_lines_lem, joint_lines_lem, single_short, joint_short}
@@ -50,27 +47,27 @@ module _ (program counts : List ℕ) (inputs : List ℤ) {rs₀ ls₀ w₀ rs₁
   same_lengths : length ls ≡ length ls₁
   same_lengths = rw (f.lengths, length-replicate) p
 
-  module _ (budget : ℕ) (a : Result SingleAnswers.Answer Refused) (i : SingleRuns.Is (single_call lent budget) a rs ls w) where
-    pub single_can : single_fits a n rs ls
-    single_can = rw e (single_call_fits lent rs ls same_records same_lengths few_records budget w a i)
+  module _ (budget : ℕ) (line : SingleLine) (i : Is (single_call lent budget) (single_said line) rs ls w) where
+    pub single_can : single_fits line n rs ls
+    single_can = rw e (single_call_fits lent rs ls same_records same_lengths few_records budget w line i)
 
-    pub single_put : {at to : ℕ} {o o' : List ℕ} → Puts (single_lines n (single_shown a rs ls)) at to o o' → PutsAtMost most_of_one (single_printed L budget) at to o o'
+    pub single_put : {at to : ℕ} {o o' : List ℕ} → Puts (single_lines n (single_shown line rs ls)) at to o o' → PutsAtMost most_of_one (single_printed L budget) at to o o'
     unfolding single_printed filled
     single_put q =
         put_at_most
-        (single_lines_lem n (single_call lent budget) a rs ls w i ∙ rw (e, ← lent_is))
-        (single_short n a rs ls single_can) q
+        (single_lines_lem n (single_call lent budget) line rs ls w i ∙ rw (e, ← lent_is))
+        (single_short n line rs ls single_can) q
 
-  module _ (turns : List ℕ) (a : Result JointAnswers.Answer Refused) (i : JointRuns.Is (joint_call lent turns) a rs ls w) where
-    pub joint_can : joint_fits a n rs ls
-    joint_can = rw e (joint_call_fits lent rs ls same_records same_lengths few_records turns w a i)
+  module _ (turns : List ℕ) (line : JointLine) (i : Is (joint_call lent turns) (joint_said line) rs ls w) where
+    pub joint_can : joint_fits line n rs ls
+    joint_can = rw e (joint_call_fits lent rs ls same_records same_lengths few_records turns w line i)
 
-    pub joint_put : {at to : ℕ} {o o' : List ℕ} → Puts (joint_lines n (joint_shown a rs ls)) at to o o' → PutsAtMost most_of_one (joint_printed L turns) at to o o'
+    pub joint_put : {at to : ℕ} {o o' : List ℕ} → Puts (joint_lines n (joint_shown line rs ls)) at to o o' → PutsAtMost most_of_one (joint_printed L turns) at to o o'
     unfolding joint_printed filled
     joint_put q =
         put_at_most
-        (joint_lines_lem n (joint_call lent turns) a rs ls w i ∙ rw (e, ← lent_is))
-        (joint_short n a rs ls joint_can) q
+        (joint_lines_lem n (joint_call lent turns) line rs ls w i ∙ rw (e, ← lent_is))
+        (joint_short n line rs ls joint_can) q
 
 -- ---- both runs, each with its own working bytes
 pub both_put : (program counts : List ℕ) (inputs : List ℤ) (budget : ℕ) (turns : List ℕ) (l : Lending) (r₁ l₁ w₁ r₂ l₂ w₂ : ℕ)

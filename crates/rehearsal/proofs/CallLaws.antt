@@ -10,16 +10,14 @@ use Rattle.program.specs.Answer.{answer_of, check_answer}
 use Rattle.places.specs.GoodLaws.{good_program}
 use Rattle.rules.specs.Lent.{Lent, Is, room_of, inputs_of}
 use Rattle.rules.specs.Calls.{Accepted, SingleAnswer, JointAnswer, setting_of, single_call, joint_call}
-use Rattle.std.specs.Prelude.{Result, Ok, Err}
-use Rattle.refusals.specs.declared.Refused.{Refused}
-use Rattle.single.specs.Runs as SingleRuns
-use Rattle.single.specs.declared.runs.Answer as SingleAnswers
-use Rattle.joint.specs.Runs as JointRuns
-use Rattle.joint.specs.declared.runs.Answer as JointAnswers
 use Rattle.invariants.specs.Accepted.{IsSingleRun, IsJointRun}
 use Rattle.invariants.proofs.RoomLaws.{single_fits_lem, joint_fits_lem}
 use Rattle.invariants.proofs.AcceptedLaws.{enough, single_accepted, single_length, joint_accepted, joint_length}
-use Rattle.printing.specs.Shown.{Fit, max_records, single_fits, joint_fits}
+use Rattle.printing.specs.declared.lines.SingleLine.{SingleLine}
+use Rattle.printing.specs.declared.lines.SingleLine.TheVariants as SingleLine'
+use Rattle.printing.specs.declared.lines.JointLine.{JointLine}
+use Rattle.printing.specs.declared.lines.JointLine.TheVariants as JointLine'
+use Rattle.printing.specs.Shown.{Fit, max_records, single_said, joint_said, single_fits, joint_fits}
 use Rattle.rehearsal.specs.Both.{parties_of}
 
 -- ---- what is left of what was lent; rs and ls are the records and the lengths, and a call changes the length of neither
@@ -46,11 +44,12 @@ module _ (L : Lent) (rs ls : List ℕ) (r : length rs ≡ length L.records) (p :
         let c = single_accepted L budget (subst IsSingleRun i.answer h) in
         fit c (λ P l. rw (i.lengths, single_length L budget c P l) (single_fits_lem (setting_of c.program L) (inputs_of L) (enough c).room budget P l))
 
-    pub single_call_fits : (w : List ℕ) (a : Result SingleAnswers.Answer Refused) → SingleRuns.Is (single_call L budget) a rs ls w → single_fits a n rs ls
-    single_call_fits w (Err e) i = tt
-    single_call_fits w (Ok (SingleAnswers.TheVariants.Stopped refusal node steps)) i = single_run i tt
-    single_call_fits w (Ok (SingleAnswers.TheVariants.Ended steps)) i = single_run i tt
-    single_call_fits w (Ok (SingleAnswers.TheVariants.Budget steps)) i = single_run i tt
+    -- a line that says its answer can be put
+    pub single_call_fits : (w : List ℕ) (line : SingleLine) → Is (single_call L budget) (single_said line) rs ls w → single_fits line n rs ls
+    single_call_fits w (SingleLine'.Refused number place) i = tt
+    single_call_fits w (SingleLine'.Stopped number node steps) i = single_run i tt
+    single_call_fits w (SingleLine'.Ended steps) i = single_run i tt
+    single_call_fits w (SingleLine'.Budget steps) i = single_run i tt
 
   -- the joint call
   module _ (turns : List ℕ) where
@@ -59,7 +58,7 @@ module _ (L : Lent) (rs ls : List ℕ) (r : length rs ≡ length L.records) (p :
         let c = joint_accepted L turns (subst IsJointRun i.answer h) in
         fit c (λ P l. rw (i.lengths, joint_length L turns c P l) (joint_fits_lem (setting_of c.program L) (inputs_of L) (enough c).room turns P))
 
-    pub joint_call_fits : (w : List ℕ) (a : Result JointAnswers.Answer Refused) → JointRuns.Is (joint_call L turns) a rs ls w → joint_fits a n rs ls
-    joint_call_fits w (Err e) i = tt
-    joint_call_fits w (Ok (JointAnswers.TheVariants.Complete turned)) i = joint_run i tt
-    joint_call_fits w (Ok (JointAnswers.TheVariants.Open turned)) i = joint_run i tt
+    pub joint_call_fits : (w : List ℕ) (line : JointLine) → Is (joint_call L turns) (joint_said line) rs ls w → joint_fits line n rs ls
+    joint_call_fits w (JointLine'.Refused number place) i = tt
+    joint_call_fits w (JointLine'.Complete turned) i = joint_run i tt
+    joint_call_fits w (JointLine'.Open turned) i = joint_run i tt

@@ -1,13 +1,17 @@
 // Both runs of what was read, printed.
 ghost use Rattle.std.specs.Prelude.{◌≡◌, ◌+◌, ◌*◌, ◌≤◌, length};
 ghost use Rattle.program.specs.Answer.{check_answer};
+ghost use Rattle.single.specs.Runs.{told as told_single};
+ghost use Rattle.joint.specs.Runs.{told as told_joint};
 ghost use Rattle.cases.specs.Placed.{Placed};
 ghost use Rattle.rehearsal.specs.Both.{parties_of, filled, single_printed, joint_printed, shown_case, shown};
-ghost use Rattle.printing.specs.Shown.{max_records, most_of_one};
+ghost use Rattle.printing.specs.Shown.{single_said, joint_said, max_records, most_of_one};
 ghost use Rattle.rehearsal.specs.Spaces.{Filled, Holds, Exact, Rows, PutsAtMost};
 
 use cases::layout::Layout;
 use cases::lending::Lending;
+use printing::lines::{JointLine, SingleLine};
+use refusals::Refused;
 
 // The parties of a good program, or 0, as the printed lines' definitions have it.
 fn parties_of(program: &[u8]) -> u8
@@ -28,6 +32,31 @@ fn fill(records: &mut [u8], lengths: &mut [usize], work: &mut [u8])
     work.fill(0x55);
 }
 
+// The line of a single run's answer: a refusal is told by its number.
+fn single_line(answer: Result<single::runs::Answer, Refused>) -> SingleLine
+    ensures { single_said result ≡ told_single answer }
+{
+    match answer {
+        Ok(single::runs::Answer::Stopped(refusal, node, steps)) => {
+            SingleLine::Stopped(u8::from(refusal), node, steps)
+        }
+        Ok(single::runs::Answer::Ended(steps)) => SingleLine::Ended(steps),
+        Ok(single::runs::Answer::Budget(steps)) => SingleLine::Budget(steps),
+        Err(refused) => SingleLine::Refused(u8::from(refused.refusal), refused.place),
+    }
+}
+
+// The line of a joint run's answer.
+fn joint_line(answer: Result<joint::runs::Answer, Refused>) -> JointLine
+    ensures { joint_said result ≡ told_joint answer }
+{
+    match answer {
+        Ok(joint::runs::Answer::Complete(turns)) => JointLine::Complete(turns),
+        Ok(joint::runs::Answer::Open(turns)) => JointLine::Open(turns),
+        Err(refused) => JointLine::Refused(u8::from(refused.refusal), refused.place),
+    }
+}
+
 // The lines of the single run, in all that is lent.
 fn show_single(
     program: &[u8],
@@ -45,7 +74,8 @@ fn show_single(
 {
     fill(records, lengths, work);
     let answer = single::runs::run(program, counts, inputs, budget, records, lengths, work);
-    printing::lines::put_single(answer, parties_of(program), records, lengths, out, at)
+    let line = single_line(answer);
+    printing::lines::put_single(line, parties_of(program), records, lengths, out, at)
 }
 
 // The lines of the joint run, in all that is lent.
@@ -65,7 +95,8 @@ fn show_joint(
 {
     fill(records, lengths, work);
     let answer = joint::runs::run(program, counts, inputs, turns, records, lengths, work);
-    printing::lines::put_joint(answer, parties_of(program), records, lengths, out, at)
+    let line = joint_line(answer);
+    printing::lines::put_joint(line, parties_of(program), records, lengths, out, at)
 }
 
 // The lines of both runs, one after the other: each is lent so many of the working bytes.
