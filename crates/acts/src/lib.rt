@@ -106,7 +106,7 @@ pub fn join(
     settle(ev, own, t, p, used, bytes, area)
 }
 
-// What the site is told, done: the effect of its own rule, or a stop by any number. `input` is its next input, if any is left. A meeting is nothing that a site does by itself, and of a move nothing is left to do.
+// What the site is told, done: the effect of its own rule, or a stop by any number, since a record can hold any. `input` is its next input, if any is left. A meeting is nothing that a site does by itself, and of a move nothing is left to do.
 pub fn act(
     told: Result<Effect, u8>,
     t: Stand,

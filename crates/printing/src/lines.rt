@@ -5,19 +5,19 @@ ghost use Rattle.text.specs.Text.{Puts};
 ghost use Rattle.printing.specs.Lines.{one_number, two_numbers, party_line, record_lines, single_lines, joint_lines};
 ghost use Rattle.printing.specs.Shown.{Fit, most_of_party, most_of_records, most_of_one, unanswered, single_fits, single_shown, joint_fits, joint_shown};
 
-// What the line of a single run tells, in document 01's numbers: `SingleAnswer` in code. Any number is printed.
+// What the line of a single run tells, in document 01's numbers: `SingleAnswer` in code. A refusal is told by any number, since a line can hold any.
 #[derive(Clone, Copy)]
 pub enum SingleLine {
     // the refusal's number, and its place
     Refused(u8, usize),
-    // the refusal's number, the node, and the steps taken before
+    // the refusal's number, the node, and the steps taken before, which the line leaves out
     Stopped(u8, u16, u32),
     // the steps
     Ended(u32),
     Budget(u32),
 }
 
-// What the line of a joint run tells: `JointAnswer` in code.
+// What the line of a joint run tells, in the same way: `JointAnswer` in code.
 #[derive(Clone, Copy)]
 pub enum JointLine {
     // the refusal's number, and its place

@@ -106,18 +106,8 @@ pub fn turn(
             true
         }
         Advanced::Asks(effect) => {
-            turn_steps::act_alone(
-                Ok(effect),
-                stand,
-                p,
-                room,
-                inputs,
-                at,
-                end,
-                bytes,
-                lengths,
-                work,
-            );
+            let told = Ok(effect);
+            turn_steps::act_alone(told, stand, p, room, inputs, at, end, bytes, lengths, work);
             true
         }
         Advanced::Joins => joined(

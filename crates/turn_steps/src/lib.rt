@@ -47,7 +47,7 @@ fn takes_input(told: Result<Effect, u8>, input: Option<i32>) -> bool
     matches!(told, Ok(Effect::Reads)) && input.is_some()
 }
 
-// Site p, which stands at t, does what it is told: what its own rule asks, or a stop by any number.
+// Site p, which stands at t, does what it is told: what its own rule asks, or a stop by any number, as `act` takes it.
 pub fn act_alone(
     told: Result<Effect, u8>,
     t: Stand,
